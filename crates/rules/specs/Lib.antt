@@ -1,0 +1,10 @@
+pub mod Lists
+pub mod Texts
+pub mod Kinds
+pub mod Names
+pub mod Fields
+pub mod Records
+pub mod Bytes
+pub mod Answers
+pub mod Questions
+pub mod Reading
