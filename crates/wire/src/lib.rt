@@ -1,0 +1,2 @@
+// Bytes put into lent buffers and read from slices: the leaves of every writer and reader.
+pub mod letters;
