@@ -8,3 +8,4 @@ pub mod Bytes
 pub mod Answers
 pub mod Questions
 pub mod Reading
+pub mod Bench
