@@ -1,1 +1,8 @@
+pub mod Tests
+pub mod Lists
+pub mod Numbers
+pub mod Names
+pub mod Fields
+pub mod GoodLines
+pub mod Records
 pub mod Bench
