@@ -5,4 +5,8 @@ pub mod Names
 pub mod Fields
 pub mod GoodLines
 pub mod Records
+pub mod Decoding
+pub mod Lowering
+pub mod Refusals
+pub mod Meaning
 pub mod Bench

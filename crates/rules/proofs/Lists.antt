@@ -92,7 +92,6 @@ split-short b (suc n) (x ∷ s) h =
     head [] nil = cons {x = x ∷ []} (omega arith) nil
     head (p ∷ ps) (cons k a) = cons {x = x ∷ p} (omega arith) (all-weaken (λ q j. omega arith) a)
 
-
 pub same-length : (xs ys : List ℕ) → T (sameBytes xs ys) → length xs ≡ length ys
 unfolding sameBytes
 same-length [] [] t = refl

@@ -40,4 +40,3 @@ pub pick-ap {ℓ κ} : {A : Type ℓ} {B : Type κ} (f : A → B) (b : Bool) (x 
 unfolding pick
 pick-ap f true x y = refl
 pick-ap f false x y = refl
-

@@ -8,4 +8,5 @@ pub mod Bytes
 pub mod Answers
 pub mod Questions
 pub mod Reading
+pub mod Demands
 pub mod Bench
