@@ -10,3 +10,4 @@ pub mod Questions
 pub mod Reading
 pub mod Demands
 pub mod Bench
+pub mod Examples
