@@ -34,13 +34,13 @@ pub fn get_le(bytes: &[u8]) -> u64
     requires { ⌜ length (now bytes) ≤ 8 ⌝ }
     ensures { λ r. ⌜ r ≡ fromLE (now (bytes .entry)) ⌝ }
 {
-    let mut number: u64 = 0;
+    let mut value: u64 = 0;
     let mut i: usize = bytes.len();
     while 0 < i {
         i -= 1;
-        number = number * 256 + wide(bytes[i]);
+        value = value * 256 + wide(bytes[i]);
     }
-    number
+    value
 }
 
 pub fn same(a: &[u8], b: &[u8]) -> bool

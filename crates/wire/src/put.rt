@@ -66,11 +66,11 @@ pub fn put_le(out: &mut [u8], width: usize, n: u64) -> usize
     ensures { λ r. ⌜ IsPut (le width n) (now (out .entry)) (now (out .exit)) r ⌝ }
     ensures { λ r. ⌜ r ≡ width ⌝ }
 {
-    let mut left = n;
+    let mut rest = n;
     let mut i: usize = 0;
     while i < width {
-        out[i] = (left % 256) as u8;
-        left = left / 256;
+        out[i] = (rest % 256) as u8;
+        rest = rest / 256;
         i += 1;
     }
     width

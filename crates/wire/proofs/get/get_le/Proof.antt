@@ -7,10 +7,10 @@ use Rattle.wire.proofs.get.get_le.Statement.{statement}
 use Rattle.wire.proofs.get.get_le.Tie as tie
 
 abbrev Inv-loop : tie.InvT-loop
-Inv-loop bytes number₀ i₀ number i = (i ≤ length bytes) × (number < 256 ^ (length bytes - i)) × (number ≡ fromLE (drop i bytes))
+Inv-loop bytes value₀ i₀ value i = (i ≤ length bytes) × (value < 256 ^ (length bytes - i)) × (value ≡ fromLE (drop i bytes))
 
 abbrev μ-loop : tie.MeasureT-loop
-μ-loop bytes number₀ i₀ number i = i
+μ-loop bytes value₀ i₀ value i = i
 
 loop-holds : tie.Need-loop-holds Inv-loop μ-loop
 loop-holds c = search from-le·laws
@@ -18,8 +18,8 @@ loop-holds c = search from-le·laws
 sub-i : tie.Need-sub-i Inv-loop μ-loop
 sub-i c = search from-le·laws
 
-mul-number : tie.Need-mul-number Inv-loop μ-loop
-mul-number c = search from-le·laws
+mul-value : tie.Need-mul-value Inv-loop μ-loop
+mul-value c = search from-le·laws
 
 shared-slice-read-wide : tie.Need-shared-slice-read-wide Inv-loop μ-loop
 shared-slice-read-wide c = search from-le·laws
@@ -27,8 +27,8 @@ shared-slice-read-wide c = search from-le·laws
 wide-requires : tie.Need-wide-requires Inv-loop μ-loop
 wide-requires c κs = search from-le·laws
 
-add-number : tie.Need-add-number Inv-loop μ-loop
-add-number c = search from-le·laws
+add-value : tie.Need-add-value Inv-loop μ-loop
+add-value c = search from-le·laws
 
 loop-less : tie.Need-loop-less Inv-loop μ-loop
 loop-less c = search from-le·laws
@@ -47,10 +47,10 @@ get-le-spec =
     μ-loop
     loop-holds
     sub-i
-    mul-number
+    mul-value
     shared-slice-read-wide
     wide-requires
-    add-number
+    add-value
     loop-less
     loop-again
     returns)

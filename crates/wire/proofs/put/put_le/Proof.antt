@@ -10,10 +10,10 @@ use Rattle.wire.proofs.put.put_le.Statement.{statement}
 use Rattle.wire.proofs.put.put_le.Tie as tie
 
 abbrev Inv-loop : tie.InvT-loop
-Inv-loop out₀ width n left₀ i₀ out left i = (i ≤ width) × (length out ≡ length out₀) × Run out₀ out i × (take i out ++ le (width - i) left ≡ le width n)
+Inv-loop out₀ width n rest₀ i₀ out rest i = (i ≤ width) × (length out ≡ length out₀) × Run out₀ out i × (take i out ++ le (width - i) rest ≡ le width n)
 
 abbrev μ-loop : tie.MeasureT-loop
-μ-loop out₀ width n left₀ i₀ out left i = width - i
+μ-loop out₀ width n rest₀ i₀ out rest i = width - i
 
 loop-holds : tie.Need-loop-holds Inv-loop μ-loop
 loop-holds c = search le·laws
