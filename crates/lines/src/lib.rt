@@ -1,0 +1,2 @@
+// One line of a source: its kind and fields, its first fault, its records written.
+pub mod kinds;
