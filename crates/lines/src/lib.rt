@@ -1,2 +1,4 @@
 // One line of a source: its kind and fields, its first fault, its records written.
 pub mod kinds;
+pub mod splits;
+pub mod strips;
