@@ -1,0 +1,2 @@
+// The fields of a line, each read by a function of its own. specs/Views.antt says what their answers mean.
+pub mod numbers;
