@@ -1,8 +1,16 @@
 -- What the answers of the readers mean, as the rules write it.
 use Prim.Native.Nat.{ℕ}
 use mathlib.Core.Option.{Option, none, some}
+use lib.ListN.{length}
+use Rattle.rules.specs.Names.{NameRead, named, misnamed}
 use Rattle.fields.specs.declared.numbers.NumberRead.{NumberRead}
+use Rattle.fields.specs.declared.names.NameJudged.{NameJudged}
 
 abbrev pub numberRead : NumberRead → Option ℕ
 numberRead (NumberRead.Good value) = some value
 numberRead NumberRead.Bad = none
+
+-- a name by its length alone
+abbrev pub judgedOf : NameRead → NameJudged
+judgedOf (named wire) = NameJudged.Named (length wire)
+judgedOf (misnamed fault place) = NameJudged.Misnamed fault place

@@ -1,2 +1,3 @@
 // The fields of a line, each read by a function of its own. specs/Views.antt says what their answers mean.
 pub mod numbers;
+pub mod names;
