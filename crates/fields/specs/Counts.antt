@@ -4,6 +4,7 @@ use mathlib.Core.List.{List, [], _∷_}
 use lib.Dec.{leb, eqb}
 use Rattle.rules.specs.Lists.{pick}
 use Rattle.rules.specs.Names.{nameByte, longestName}
+use Rattle.rules.specs.Fields.{lowerHexDigit, hexValue}
 use Rattle.rules.specs.declared.faults.NameFault.{NameFault}
 use Rattle.fields.specs.declared.names.ByteKind.{ByteKind}
 use Rattle.fields.specs.declared.names.NameJudged.{NameJudged}
@@ -34,3 +35,7 @@ judgedFrom closed begun place (b ∷ bs) =
     (pick (eqb begun 0) (NameJudged.Misnamed NameFault.EmptyLabel place) next)
     (pick (leb 63 begun) (NameJudged.Misnamed NameFault.LabelTooLong place) more)
     (NameJudged.Misnamed NameFault.ByteNotAllowed place)
+
+-- a hexadecimal digit's value, or a number that stands for none
+unfoldable pub hexOr : ℕ → ℕ → ℕ
+hexOr bad b = pick (lowerHexDigit b) (hexValue b) bad

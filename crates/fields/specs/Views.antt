@@ -3,6 +3,10 @@ use Prim.Native.Nat.{ℕ}
 use mathlib.Core.Option.{Option, none, some}
 use lib.ListN.{length}
 use Rattle.rules.specs.Names.{NameRead, named, misnamed}
+use Rattle.rules.specs.declared.quantities.Lo.{Lo}
+use Rattle.rules.specs.declared.quantities.Moment.{Moment}
+use Rattle.fields.specs.declared.codes.LoRead.{LoRead}
+use Rattle.fields.specs.declared.times.TimeRead.{TimeRead}
 use Rattle.fields.specs.declared.numbers.NumberRead.{NumberRead}
 use Rattle.fields.specs.declared.names.NameJudged.{NameJudged}
 
@@ -14,3 +18,11 @@ numberRead NumberRead.Bad = none
 abbrev pub judgedOf : NameRead → NameJudged
 judgedOf (named wire) = NameJudged.Named (length wire)
 judgedOf (misnamed fault place) = NameJudged.Misnamed fault place
+
+abbrev pub timeRead : TimeRead → Option ℕ
+timeRead (TimeRead.Good moment) = some (moment .0)
+timeRead TimeRead.Bad = none
+
+abbrev pub loRead : LoRead → Option Lo
+loRead (LoRead.Good code) = some code
+loRead LoRead.Bad = none

@@ -1,3 +1,7 @@
 // The fields of a line, each read by a function of its own. specs/Views.antt says what their answers mean.
-pub mod numbers;
+pub mod codes;
+pub mod hex;
 pub mod names;
+pub mod numbers;
+pub mod pieces;
+pub mod times;
