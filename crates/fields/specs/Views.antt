@@ -1,5 +1,6 @@
 -- What the answers of the readers mean, as the rules write it.
 use Prim.Native.Nat.{ℕ}
+use mathlib.Core.Bool.{Bool, true, false}
 use mathlib.Core.Option.{Option, none, some}
 use lib.ListN.{length}
 use Rattle.rules.specs.Names.{NameRead, named, misnamed}
@@ -18,6 +19,10 @@ numberRead NumberRead.Bad = none
 abbrev pub judgedOf : NameRead → NameJudged
 judgedOf (named wire) = NameJudged.Named (length wire)
 judgedOf (misnamed fault place) = NameJudged.Misnamed fault place
+
+abbrev pub isNamed : NameRead → Bool
+isNamed (named wire) = true
+isNamed (misnamed fault place) = false
 
 abbrev pub timeRead : TimeRead → Option ℕ
 timeRead (TimeRead.Good moment) = some (moment .0)

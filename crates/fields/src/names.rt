@@ -1,9 +1,13 @@
 // A name's text: labels joined by dots.
 ghost use mathlib.Core.Path.{_≡_};
+ghost use mathlib.Core.Bool.{true};
 ghost use mathlib.Core.List.{[], _∷_};
+ghost use Prim.Native.Nat.{_≤_};
+ghost use lib.ListN.{length};
 ghost use Rattle.rules.specs.Lists.{sameBytes};
-ghost use Rattle.rules.specs.Names.{nameOf};
-ghost use Rattle.fields.specs.Views.{judgedOf};
+ghost use Rattle.rules.specs.Names.{nameOf, wireOf};
+ghost use Rattle.wire.specs.Put.{IsPut};
+ghost use Rattle.fields.specs.Views.{judgedOf, isNamed};
 ghost use Rattle.fields.specs.Counts.{byteKind, judgedSize};
 use rules::faults::NameFault;
 
@@ -96,4 +100,36 @@ pub fn judge_name(text: &[u8]) -> NameJudged
         return sized(closed + 1);
     }
     sized(closed + begun + 2)
+}
+
+// The name on the wire, at the front of out. A label's length is stored when the label closes: until then its place is kept free.
+pub fn put_name(out: &mut [u8], text: &[u8]) -> usize
+    requires { ⌜ (isNamed (nameOf (now text)) ≡ true) × (length (wireOf (now text)) ≤ length (now out)) ⌝ }
+    ensures { λ r. ⌜ IsPut (wireOf (now (text .entry))) (now (out .entry)) (now (out .exit)) r ⌝ }
+{
+    if is_root(text) {
+        out[0] = 0;
+        return 1;
+    }
+    let n = text.len();
+    let mut start: usize = 0;
+    let mut i: usize = 0;
+    while i < n {
+        let b = text[i];
+        if b == 46 {
+            out[start] = (i - start) as u8;
+            start = i + 1;
+            i += 1;
+        } else {
+            out[i + 1] = b;
+            i += 1;
+        }
+    }
+    if start == n {
+        out[n] = 0;
+        return n + 1;
+    }
+    out[start] = (n - start) as u8;
+    out[n + 1] = 0;
+    n + 2
 }
