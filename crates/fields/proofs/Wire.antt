@@ -10,20 +10,15 @@ use native.Mathlib.Omega.{arith}
 use borrow.Author.Needs.{needs}
 use borrow.Author.Tests.{eq-eqb, ne-eqb, eqb-true, eqb-false, leb-false}
 use lib.Dec.{leb, eqb}
-use lib.ListN.{length, getD, take, drop, set, length-append, length-take, length-drop, length-set, take-append-drop, drop-of-length-le}
-use lib.Seq.{take-suc-set, take-set-le, take-set-lt, drop-set-lt, set-split, drop-append-le, take-take, drop-drop, length-take-le, slice-empty}
+use lib.ListN.{length, getD, take, drop, set, length-append, length-take, length-drop, length-set, drop-of-length-le}
+use lib.Seq.{take-suc-set, take-set-le, take-set-lt, drop-set-lt, set-split, drop-append-le, take-take, length-take-le, slice-empty}
 use Rattle.rules.specs.Lists.{pick, sameBytes}
 use Rattle.rules.specs.Names.{NameRead, named, misnamed, nameByte, label, longestName, ifNotTooLong, nameFrom, nameOf, wireIn, wireOf}
 use Rattle.rules.specs.declared.faults.NameFault.{NameFault}
 use Rattle.wire.specs.Put.{IsPut}
 use Rattle.wire.proofs.Steps.{left-at, take-put}
 use Rattle.fields.specs.Views.{isNamed}
-
--- bytes are put where the buffer's front is they and the rest is as it was
-pub put-by : (x d out : List ℕ) (r : ℕ) → length out ≡ length d → r ≤ length d → take r out ≡ x → drop r out ≡ drop r d → IsPut x d out r
-put-by x d out r l h f b =
-    let q : length x ≡ r = ap length (sym f) ∙ length-take-le r out (omega arith) in
-    record { count = sym q; room = omega arith; holds = sym (take-append-drop r out) ∙ rw (f, b, q) }
+use Rattle.fields.proofs.Front.{put-by, on}
 
 false-true : {A : Type 0} → false ≡ true → A
 false-true e = absurd (let z : _≡_ {A = ℕ} 0 1 = cc in omega arith)
@@ -96,7 +91,7 @@ long (b ∷ bs) closed begun place n =
     rw (w .1) (omega (arith, long bs closed (begun ++ (b ∷ [])) (suc place) (ap isNamed (sym (w .1)) ∙ n))))
     (same-or-not (eqb b 46) b 46 refl)
 
-abbrev labelAt : List ℕ → ℕ → ℕ → List ℕ
+abbrev pub labelAt : List ℕ → ℕ → ℕ → List ℕ
 labelAt out start i = drop (start + 1) (take (i + 1) out)
 
 -- where the loop stands: what is left of the text, read behind what is written, gives the name, and the buffer is as it was behind that
@@ -133,13 +128,13 @@ label-length : (out : List ℕ) (start i : ℕ) → start ≤ i → i < length o
 label-length out start i h k = simp (length-drop, length-take) (omega arith)
 
 -- a store behind the label makes it one byte longer
-longer : (out : List ℕ) (start i b : ℕ) → start ≤ i → i + 1 < length out → labelAt (set out (i + 1) b) start (i + 1) ≡ labelAt out start i ++ (b ∷ [])
+pub longer : (out : List ℕ) (start i b : ℕ) → start ≤ i → i + 1 < length out → labelAt (set out (i + 1) b) start (i + 1) ≡ labelAt out start i ++ (b ∷ [])
 longer out start i b h l =
     let m : start + 1 ≤ length (take (i + 1) out) = simp length-take (omega arith) in
     rw (add-one (i + 1), take-suc-set out (i + 1) b l, drop-append-le (start + 1) (take (i + 1) out) (b ∷ []) m)
 
 -- a store of its length closes it
-closing : (out : List ℕ) (start i : ℕ) → start < i → i < length out → take (i + 1) (set out start (i - start)) ≡ take start out ++ label (labelAt out start i)
+pub closing : (out : List ℕ) (start i : ℕ) → start < i → i < length out → take (i + 1) (set out start (i - start)) ≡ take start out ++ label (labelAt out start i)
 closing out start i h k =
     let n = label-length out start i (omega arith) k in
     let l : start < length (take (i + 1) out) = simp length-take (omega arith) in
@@ -151,10 +146,6 @@ closing out start i h k =
       take-take start (i + 1) out (omega arith),
       add-one start,
     )
-
--- what is behind stays as it was, one byte on
-on : (out d : List ℕ) (i : ℕ) → drop (i + 1) out ≡ drop (i + 1) d → drop (i + 1 + 1) out ≡ drop (i + 1 + 1) d
-on out d i e = rw (← drop-drop 1 (i + 1) out, e, drop-drop 1 (i + 1) d)
 
 module _ (s d out : List ℕ) (start i : ℕ) (e : Putting s d out start i) (n : isNamed (nameOf s) ≡ true) (h : start ≤ i) (m : length s + 1 ≤ length d) (k : length out ≡ length d) where
   at : i < length s → nameOf s ≡ nameFrom (take start out) (labelAt out start i) i (getD s i 0 ∷ drop (i + 1) s)

@@ -5,7 +5,7 @@ ghost use mathlib.Core.List.{[], _∷_};
 ghost use Prim.Native.Nat.{_≤_};
 ghost use lib.ListN.{length};
 ghost use Rattle.rules.specs.Lists.{sameBytes};
-ghost use Rattle.rules.specs.Names.{nameOf, wireOf};
+ghost use Rattle.rules.specs.Names.{label, nameOf, wireOf};
 ghost use Rattle.wire.specs.Put.{IsPut};
 ghost use Rattle.fields.specs.Views.{judgedOf, isNamed};
 ghost use Rattle.fields.specs.Counts.{byteKind, judgedSize};
@@ -132,4 +132,22 @@ pub fn put_name(out: &mut [u8], text: &[u8]) -> usize
     out[start] = (n - start) as u8;
     out[n + 1] = 0;
     n + 2
+}
+
+// The text as one label, at the front of out; an empty text is no label.
+pub fn put_label(out: &mut [u8], text: &[u8]) -> usize
+    requires { ⌜ (length (now text) ≤ 63) × (length (label (now text)) ≤ length (now out)) ⌝ }
+    ensures { λ r. ⌜ IsPut (label (now (text .entry))) (now (out .entry)) (now (out .exit)) r ⌝ }
+{
+    let n = text.len();
+    if n == 0 {
+        return 0;
+    }
+    let mut i: usize = 0;
+    while i < n {
+        out[i + 1] = text[i];
+        i += 1;
+    }
+    out[0] = n as u8;
+    n + 1
 }
