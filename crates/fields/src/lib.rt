@@ -4,4 +4,5 @@ pub mod hex;
 pub mod names;
 pub mod numbers;
 pub mod pieces;
+pub mod texts;
 pub mod times;
