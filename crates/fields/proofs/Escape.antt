@@ -82,6 +82,20 @@ module _ (s : List ℕ) (i : ℕ) (r : EscapeRead) (p : escapeRead r ≡ escapeO
   unfolding escapesAt isSome
   bad q = rw (← three-digits s i h, ← p, q)
 
+  pub good-byte : (v : ℕ) → r ≡ EscapeRead.Byte v → v ≡ valueOr 0 (escapeIn (drop i s))
+  unfolding valueOr
+  good-byte v q = rw (← three-digits s i h, ← p, q)
+
+  pub no-byte : r ≡ EscapeRead.Bad → 0 ≡ valueOr 0 (escapeIn (drop i s))
+  unfolding valueOr
+  no-byte q = rw (← three-digits s i h, ← p, q)
+
+pub cut-off-byte : (s : List ℕ) (i : ℕ) → length s - i < 4 → 0 ≡ valueOr 0 (escapeIn (drop i s))
+unfolding valueOr
+cut-off-byte s i h = rw (cut-off-is s i h)
+
+pub ruleset byte·laws = (cut-off-byte, good-byte, no-byte, needs)
+
 pub ruleset escape·laws = (cut-off, good, bad, needs)
 
 -- an escape has four bytes
@@ -109,6 +123,14 @@ module _ (s : List ℕ) (i : ℕ) (h : i < length s) where
     pub no-bytes : r ≡ false → IsStep s i 0
     unfolding stepAt pick
     no-bytes w = record { says = rw (eq-eqb (getD s i 0) 92 q, ← p, w); fits = omega arith }
+
+  pub plain-byte : (getD s i 0 ≡ 92 → ⊥) → getD s i 0 ≡ byteAt s i
+  unfolding byteAt pick
+  plain-byte q = rw (ne-eqb (getD s i 0) 92 q)
+
+  pub escaped-byte : (r : ℕ) → r ≡ valueOr 0 (escapeIn (drop i s)) → getD s i 0 ≡ 92 → r ≡ byteAt s i
+  unfolding byteAt pick
+  escaped-byte r p q = rw (eq-eqb (getD s i 0) 92 q) p
 
 pub ruleset step·laws = (one-byte, four-bytes, no-bytes, needs)
 

@@ -3,12 +3,12 @@ ghost use mathlib.Core.Path.{_≡_};
 ghost use mathlib.Core.Bool.{true};
 ghost use mathlib.Core.List.{[]};
 ghost use Prim.Native.Nat.{_<_, _≤_};
-ghost use lib.ListN.{length};
+ghost use lib.ListN.{length, drop};
 ghost use Rattle.rules.specs.Lists.{isSome, valueOr};
 ghost use Rattle.rules.specs.Fields.{textOf};
 ghost use Rattle.wire.specs.Put.{IsPut};
 ghost use Rattle.fields.specs.Views.{escapeRead, textJudged};
-ghost use Rattle.fields.specs.Counts.{escapeOf, escapesAt, IsStep};
+ghost use Rattle.fields.specs.Counts.{escapeOf, escapeIn, escapesAt, byteAt, IsStep};
 
 // The count of bytes that a text stands for.
 pub enum TextJudged {
@@ -90,4 +90,46 @@ pub fn judge_text(text: &[u8]) -> TextJudged
         i += step;
     }
     TextJudged::Good(count)
+}
+
+// The byte of the escape at place i; 0 where there is none.
+fn escaped_byte(text: &[u8], i: usize) -> u8
+    requires { ⌜ i ≤ length (now text) ⌝ }
+    ensures { λ r. ⌜ r ≡ valueOr 0 (escapeIn (drop i (now (text .entry)))) ⌝ }
+{
+    if text.len() - i < 4 {
+        return 0;
+    }
+    match escape(text[i + 1], text[i + 2], text[i + 3]) {
+        EscapeRead::Byte(b) => b,
+        EscapeRead::Bad => 0,
+    }
+}
+
+// The byte that the text stands for at place i.
+fn byte_at(text: &[u8], i: usize) -> u8
+    requires { ⌜ i < length (now text) ⌝ }
+    ensures { λ r. ⌜ r ≡ byteAt (now (text .entry)) i ⌝ }
+{
+    let b = text[i];
+    if b == 92 {
+        return escaped_byte(text, i);
+    }
+    b
+}
+
+// The bytes that a good text stands for, at the front of out.
+pub fn put_text(out: &mut [u8], text: &[u8]) -> usize
+    requires { ⌜ (isSome (textOf (now text)) ≡ true) × (length (valueOr [] (textOf (now text))) ≤ length (now out)) ⌝ }
+    ensures { λ r. ⌜ IsPut (valueOr [] (textOf (now (text .entry)))) (now (out .entry)) (now (out .exit)) r ⌝ }
+{
+    let n = text.len();
+    let mut used: usize = 0;
+    let mut i: usize = 0;
+    while i < n {
+        out[used] = byte_at(text, i);
+        used += 1;
+        i += step_at(text, i);
+    }
+    used
 }
