@@ -1,0 +1,8 @@
+// The fields of a line, each read by a function of its own. specs/Views.antt says what their answers mean.
+pub mod codes;
+pub mod hex;
+pub mod names;
+pub mod numbers;
+pub mod pieces;
+pub mod texts;
+pub mod times;
