@@ -1,6 +1,6 @@
 // What compiling answers. specs/Answers.antt has the numbers.
 ghost use mathlib.Core.Path.{_≡_};
-ghost use Rattle.rules.specs.Answers.{faultNumber};
+ghost use Rattle.rules.specs.Answers.{faultNumber, isDone};
 
 // What a field that is refused was read as.
 pub enum FieldKind {
@@ -70,4 +70,11 @@ pub fn number(fault: Fault) -> u64
         Fault::Empty(_) => 12,
         Fault::NoRoom => 13,
     }
+}
+
+// Whether there is no fault.
+pub fn is_done(fault: Fault) -> bool
+    ensures { λ r. ⌜ r ≡ isDone fault ⌝ }
+{
+    number(fault) == 0
 }
