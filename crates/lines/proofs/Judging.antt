@@ -1,0 +1,192 @@
+-- The laws of judging a line.
+use mathlib.Core.Path.{_≡_, refl, ap, _∙_, sym}
+use mathlib.Core.Bool.{Bool, true, false}
+use mathlib.Core.List.{List, [], _∷_, _++_, map}
+use Prim.Native.Nat.{ℕ, zero, suc, _+_, _-_, _<_, _≤_}
+use native.Mathlib.Numerals.{add-one}
+use native.Mathlib.Omega.{arith}
+use borrow.Author.Needs.{needs}
+use borrow.Author.Tests.{eq-eqb, ne-eqb, lt-ltb, le-ltb, leb-true, leb-false}
+use lib.Dec.{ltb, leb}
+use lib.ListN.{length, getD, take, drop, replicate, length-map, List·getD-append, List·getD-map, drop-of-length-le}
+use lib.Seq.{drop-cons}
+use Rattle.rules.specs.Lists.{pick, splitOn}
+use Rattle.rules.specs.Kinds.{strip, ignored, kindOf, common, meanings, fieldCount, fieldAt}
+use Rattle.rules.specs.Fields.{faultOf}
+use Rattle.rules.specs.Records.{joinedNames}
+use Rattle.rules.specs.Answers.{isDone, noFault, thenFault, fieldsFault, joinedFault, wholeLine, kindFault, strippedFault, longestLine, lineFault}
+use Rattle.rules.specs.declared.faults.Fault.{Fault}
+use Rattle.rules.specs.declared.faults.LineFault.{LineFault}
+use Rattle.rules.specs.declared.kinds.Kind.{Kind}
+use Rattle.rules.specs.declared.kinds.Meaning.{Meaning}
+use Rattle.lines.specs.Rows.{codeOf, meaningOf, codes, rowOf}
+use Rattle.lines.specs.Splits.{FieldsOf, IsSplit}
+use Rattle.lines.specs.Strips.{IsStripped}
+use Rattle.lines.specs.declared.kinds.Row.{Row}
+use Rattle.lines.specs.declared.splits.Fields.{Fields}
+
+-- ---- one field
+
+pub field-fault : (s codes : List ℕ) (i : ℕ) (m : Meaning) (t : List ℕ) (f : Fault) → m ≡ meaningOf (getD codes i 0) → t ≡ fieldAt (splitOn 58 s) i → f ≡ faultOf m t
+    → f ≡ faultOf (meaningOf (getD codes i 0)) (fieldAt (splitOn 58 s) i)
+field-fault s codes i m t f a b c = c ∙ rw (a, b)
+
+-- ---- the fields of a kind
+
+meaning-code : (m : Meaning) → meaningOf (codeOf m) ≡ m
+unfolding meaningOf pick
+meaning-code Meaning.Owner = refl
+meaning-code Meaning.Target = refl
+meaning-code Meaning.HostPart = refl
+meaning-code Meaning.Address = refl
+meaning-code Meaning.OptionalAddress = refl
+meaning-code Meaning.Short = refl
+meaning-code Meaning.Long = refl
+meaning-code Meaning.Port = refl
+meaning-code Meaning.RecordType = refl
+meaning-code Meaning.Ttl = refl
+meaning-code Meaning.Time = refl
+meaning-code Meaning.Lo = refl
+meaning-code Meaning.LocationLo = refl
+meaning-code Meaning.Prefix = refl
+meaning-code Meaning.Text = refl
+
+-- a code within the count stands for the meaning there
+meaning-at : (kind : Kind) (i : ℕ) → i < fieldCount kind → meaningOf (getD (codes kind) i 0) ≡ getD (meanings kind) i Meaning.Owner
+unfolding codes fieldCount
+meaning-at kind i h =
+    let l : i < length (map codeOf (meanings kind)) = omega (arith, length-map (meanings kind) codeOf) in
+    ap meaningOf (List·getD-append (map codeOf (meanings kind)) (replicate (11 - fieldCount kind) 15) 0 i l ∙ List·getD-map codeOf (meanings kind) i Meaning.Owner)
+    ∙ meaning-code (getD (meanings kind) i Meaning.Owner)
+
+pub count-most : (kind : Kind) → fieldCount kind ≤ 11
+unfolding fieldCount meanings common
+count-most Kind.Location = omega arith
+count-most Kind.Zone = omega arith
+count-most Kind.Delegation = omega arith
+count-most Kind.Host = omega arith
+count-most Kind.Alias = omega arith
+count-most Kind.Mail = omega arith
+count-most Kind.Service = omega arith
+count-most Kind.Text = omega arith
+count-most Kind.Pointer = omega arith
+count-most Kind.Canonical = omega arith
+count-most Kind.Authority = omega arith
+count-most Kind.Generic = omega arith
+count-most Kind.Unknown = omega arith
+
+-- the fields from field i on have the fault of all
+unfoldable pub Going : List ℕ → Kind → ℕ → Type 0
+Going s kind i = fieldsFault i (drop i (meanings kind)) (splitOn 58 s) ≡ fieldsFault 0 (meanings kind) (splitOn 58 s)
+
+pub begin-fields : (s : List ℕ) (kind : Kind) → Going s kind 0
+unfolding Going
+begin-fields s kind = refl
+
+module _ (s : List ℕ) (kind : Kind) (row : Row) (i : ℕ) (e : row ≡ rowOf kind) (g : Going s kind i) where
+  count-is : row .count ≡ fieldCount kind
+  unfolding rowOf
+  count-is = ap (λ (r : Row). r .count) e
+
+  pub count-fits : row .count ≤ 11
+  count-fits = omega (arith, count-is, count-most kind)
+
+  pub all-good : row .count ≤ i → i ≤ row .count → record { fault = Fault.Done; field = 0 } ≡ fieldsFault 0 (meanings kind) (splitOn 58 s)
+  unfolding Going fieldsFault fieldCount noFault
+  all-good h k = rw (drop-of-length-le (meanings kind) {i = i} (omega (arith, count-is))) at g
+
+  module _ (f : Fault) (done : Bool) (l : i < row .count) (p : f ≡ faultOf (meaningOf (getD (row .meanings) i 0)) (fieldAt (splitOn 58 s) i)) (d : done ≡ isDone f) where
+    fault-is : f ≡ faultOf (getD (meanings kind) i Meaning.Owner) (fieldAt (splitOn 58 s) i)
+    unfolding rowOf
+    fault-is = p ∙ ap (λ (r : Row). faultOf (meaningOf (getD (r .meanings) i 0)) (fieldAt (splitOn 58 s) i)) e ∙ ap (λ (m : Meaning). faultOf m (fieldAt (splitOn 58 s) i)) (meaning-at kind i (omega (arith, count-is)))
+
+    step : fieldsFault 0 (meanings kind) (splitOn 58 s) ≡ pick done (fieldsFault (suc i) (drop (suc i) (meanings kind)) (splitOn 58 s)) (record { fault = f; field = suc i })
+    unfolding Going fieldsFault thenFault fieldCount
+    step = sym g ∙ rw (drop-cons (meanings kind) i Meaning.Owner (omega (arith, count-is)), ← fault-is, ← d)
+
+    pub next-field : done ≡ true → Going s kind (i + 1)
+    unfolding Going pick
+    next-field t = rw (add-one i) (sym (step ∙ rw t))
+
+    pub first-fault : done ≡ false → record { fault = f; field = i + 1 } ≡ fieldsFault 0 (meanings kind) (splitOn 58 s)
+    unfolding pick
+    first-fault t = rw (add-one i) (sym (step ∙ rw t))
+
+pub ruleset fields·laws = (needs, begin-fields, count-fits, all-good, next-field, first-fault)
+
+-- ---- a kind
+
+module _ (s : List ℕ) (kind : Kind) (row : Row) (e : row ≡ rowOf kind) where
+  rows : row .count ≡ fieldCount kind
+  unfolding rowOf
+  rows = ap (λ (r : Row). r .count) e
+
+  pub row-most : row .count ≤ 11
+  row-most = omega (arith, rows, count-most kind)
+
+  pub unknown : row .count ≡ 0 → record { fault = Fault.UnknownKind; field = 0 } ≡ kindFault kind (splitOn 58 s)
+  unfolding kindFault wholeLine pick
+  unknown z = rw (eq-eqb (fieldCount kind) 0 (sym rows ∙ z))
+
+  module _ (fields : Fields) (some : row .count ≡ 0 → ⊥) (p : IsSplit s (row .count) fields) where
+    known : kindFault kind (splitOn 58 s) ≡ pick (ltb (fieldCount kind) (length (splitOn 58 s))) (wholeLine Fault.TooManyFields) (thenFault (fieldsFault 0 (meanings kind) (splitOn 58 s)) (joinedFault (joinedNames kind (splitOn 58 s))))
+    unfolding kindFault pick
+    known = rw (ne-eqb (fieldCount kind) 0 (λ z. some (rows ∙ z)))
+
+    pub too-many : fields .fits ≡ false → record { fault = Fault.TooManyFields; field = 0 } ≡ kindFault kind (splitOn 58 s)
+    unfolding wholeLine pick
+    too-many t = sym (known ∙ rw (lt-ltb (fieldCount kind) (length (splitOn 58 s)) (omega (arith, rows, leb-false (length (splitOn 58 s)) (row .count) (sym (p .says) ∙ t)))))
+
+    pub spans-of : fields .fits ≡ true → FieldsOf s (fields .spans)
+    spans-of t = p .each t
+
+    module _ (fits : fields .fits ≡ true) (first : LineFault) (done : Bool) (f : first ≡ fieldsFault 0 (meanings kind) (splitOn 58 s)) (d : done ≡ isDone (first .fault)) where
+      enough : kindFault kind (splitOn 58 s) ≡ pick done (joinedFault (joinedNames kind (splitOn 58 s))) first
+      unfolding thenFault pick
+      enough = known ∙ rw (le-ltb (fieldCount kind) (length (splitOn 58 s)) (omega (arith, rows, leb-true (length (splitOn 58 s)) (row .count) (sym (p .says) ∙ fits))), ← f, ← d)
+
+      pub field-first : done ≡ false → first ≡ kindFault kind (splitOn 58 s)
+      unfolding pick
+      field-first t = sym (enough ∙ rw t)
+
+      pub joined-last : (r : LineFault) → done ≡ true → r ≡ joinedFault (joinedNames kind (splitOn 58 s)) → r ≡ kindFault kind (splitOn 58 s)
+      unfolding pick
+      joined-last r t q = q ∙ sym (enough ∙ rw t)
+
+pub ruleset kind·laws = (needs, row-most, unknown, too-many, spans-of, field-first, joined-last)
+
+-- ---- a line
+
+module _ (line : List ℕ) where
+  pub too-long : 1024 < length line → record { fault = Fault.LineTooLong; field = 0 } ≡ lineFault line
+  unfolding lineFault wholeLine longestLine pick
+  too-long h = rw (lt-ltb 1024 (length line) h)
+
+  module _ (n : ℕ) (h : length line ≤ 1024) (p : IsStripped line n) where
+    stripped-is : lineFault line ≡ strippedFault (take n line)
+    unfolding lineFault longestLine pick
+    stripped-is = rw (le-ltb 1024 (length line) h, ← (p .left))
+
+    pub nothing-left : n ≡ 0 → record { fault = Fault.Done; field = 0 } ≡ lineFault line
+    unfolding strippedFault noFault
+    nothing-left z = sym (stripped-is ∙ rw z)
+
+    module _ (some : n ≡ 0 → ⊥) where
+      -- the kind byte and the rest
+      parted : take n line ≡ getD line 0 0 ∷ take (n - 1) (drop 1 line)
+      parted = by line n some (omega (arith, p .most))
+        where
+          by : (l : List ℕ) (m : ℕ) → (m ≡ 0 → ⊥) → m ≤ length l → take m l ≡ getD l 0 0 ∷ take (m - 1) (drop 1 l)
+          by l zero s k = absurd (s refl)
+          by [] (suc m) s k = absurd (omega arith)
+          by (b ∷ l) (suc m) s k = let e : suc m - 1 ≡ m = omega arith in rw e
+
+      pub comment : (t : Bool) → t ≡ ignored (getD line 0 0) → t ≡ true → record { fault = Fault.Done; field = 0 } ≡ lineFault line
+      unfolding strippedFault noFault pick
+      comment t e q = sym (stripped-is ∙ rw (parted, ← e, q))
+
+      pub of-kind : (t : Bool) (k : Kind) (r : LineFault) → t ≡ ignored (getD line 0 0) → t ≡ false → k ≡ kindOf (getD line 0 0) → r ≡ kindFault k (splitOn 58 (take (n - 1) (drop 1 line))) → r ≡ lineFault line
+      unfolding strippedFault pick
+      of-kind t k r e q d f = f ∙ sym (stripped-is ∙ rw (parted, ← e, q, ← d))
+
+pub ruleset line·laws = (needs, too-long, nothing-left, comment, of-kind)
