@@ -1,0 +1,2 @@
+// A source compiled: every line judged and the sizes summed, then the room tested, then every line written.
+pub mod ends;
