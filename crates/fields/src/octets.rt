@@ -2,8 +2,10 @@
 ghost use mathlib.Core.Path.{_≡_};
 ghost use Rattle.fields.specs.Views.{octetRead};
 ghost use Rattle.fields.specs.Pieces.{leadingZero, octetOf};
+ghost use Rattle.fields.specs.Addresses.{IsOctets};
 use crate::numbers::NumberRead;
 use crate::numbers::number;
+use crate::pieces::piece_end;
 
 pub enum OctetRead {
     Good(u8),
@@ -32,5 +34,52 @@ fn octet(text: &[u8]) -> OctetRead
     match number(text, 255) {
         NumberRead::Good(value) => OctetRead::Good(value as u8),
         NumberRead::Bad => OctetRead::Bad,
+    }
+}
+
+// The first count bytes, where they are good.
+pub struct OctetsRead {
+    pub bytes: [u8; 4],
+    pub count: usize,
+    pub good: bool,
+}
+
+// One to four numbers joined by dots.
+pub fn octets(text: &[u8]) -> OctetsRead
+    ensures { λ r. ⌜ IsOctets (now (text .entry)) r ⌝ }
+{
+    let mut bytes = [0u8; 4];
+    let n = text.len();
+    let mut count: usize = 0;
+    let mut start: usize = 0;
+    // behind the last piece start is behind the text
+    while start <= n {
+        let end = piece_end(text, start, 46);
+        if 3 < count {
+            return OctetsRead {
+                bytes,
+                count: 0,
+                good: false,
+            };
+        }
+        match octet(&text[start..end]) {
+            OctetRead::Good(value) => {
+                bytes[count] = value;
+                count += 1;
+                start = end + 1;
+            },
+            OctetRead::Bad => {
+                return OctetsRead {
+                    bytes,
+                    count: 0,
+                    good: false,
+                };
+            },
+        }
+    }
+    OctetsRead {
+        bytes,
+        count,
+        good: true,
     }
 }

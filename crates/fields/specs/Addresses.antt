@@ -1,0 +1,21 @@
+-- What the readers of addresses promise.
+use mathlib.Core.Path.{_≡_}
+use mathlib.Core.Bool.{true}
+use mathlib.Core.List.{List}
+use mathlib.Core.Option.{Option, none, some}
+use Prim.Native.Nat.{ℕ, _≤_}
+use lib.Dec.{leb}
+use lib.ListN.{length, take}
+use Rattle.rules.specs.Lists.{pick, splitOn}
+use Rattle.rules.specs.Fields.{octet, octetByte, addressIf}
+use Rattle.fields.specs.declared.octets.OctetsRead.{OctetsRead}
+
+-- the bytes that are read
+unfoldable pub octetsRead : OctetsRead → Option (List ℕ)
+octetsRead r = pick (r .good) (some (take (r .count) (r .bytes))) none
+
+pub record IsOctets (text : List ℕ) (r : OctetsRead) : Type 0 where
+  pub says : octetsRead r ≡ addressIf (leb (length (splitOn 46 text)) 4) octet octetByte (splitOn 46 text)
+  pub pieces : r .good ≡ true → r .count ≡ length (splitOn 46 text)
+  pub few : r .count ≤ 4
+  pub long : length (r .bytes) ≡ 4
