@@ -18,7 +18,7 @@ use Rattle.fields.specs.Addresses.{octetsRead, IsOctets}
 use Rattle.fields.specs.declared.octets.OctetRead.{OctetRead}
 use Rattle.fields.specs.declared.octets.OctetsRead.{OctetsRead}
 use Rattle.fields.proofs.Piece.{piece-at, no-piece, all-pieces}
-use Rattle.fields.proofs.Taken.{Taken, none-taken, taken, bad-piece, one-more, all-good, all-bytes, all-many}
+use Rattle.fields.proofs.Taken.{Taken, none-taken, taken, bad-piece, one-more, all-good, all-bytes, all-many, good-by, bad-by}
 
 -- the numbers before start are read into the first count bytes
 abbrev pub Going : List ℕ → List ℕ → ℕ → ℕ → Type 0
@@ -26,16 +26,6 @@ Going s bytes count start = Taken octet octetByte (splitOn 46 s) (piecesFrom 46 
 
 pub begin : (s bytes : List ℕ) → Going s bytes 0 0
 begin s bytes = rw (all-pieces 46 s) (none-taken octet octetByte (splitOn 46 s))
-
-good-by : (u : Bool) (n v : ℕ) → pick u (some n) none ≡ some v → (u ≡ true) × (n ≡ v)
-unfolding pick
-good-by true n v e = (refl, cc)
-good-by false n v e = absurd (let z : _≡_ {A = ℕ} 0 1 = cc in omega arith)
-
-bad-by : (u : Bool) (n : ℕ) → pick u (some n) none ≡ none → u ≡ false
-unfolding pick
-bad-by true n e = absurd (let z : _≡_ {A = ℕ} 0 1 = cc in omega arith)
-bad-by false n e = refl
 
 refused : (s bytes : List ℕ) → length bytes ≡ 4 → addressIf (leb (length (splitOn 46 s)) 4) octet octetByte (splitOn 46 s) ≡ none
     → IsOctets s (record { bytes = bytes; count = 0; good = false })

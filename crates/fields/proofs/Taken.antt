@@ -49,3 +49,14 @@ module _ (good : List ℕ → Bool) (f : List ℕ → List ℕ) (pieces : List (
 
       pub all-many : length pieces ≡ count
       all-many = e .many ∙ rw (q, add-zero count)
+
+-- what a piece's reading tells of its test and its value
+pub good-by : (u : Bool) (n v : ℕ) → pick u (some n) none ≡ some v → (u ≡ true) × (n ≡ v)
+unfolding pick
+good-by true n v e = (refl, cc)
+good-by false n v e = absurd (let z : _≡_ {A = ℕ} 0 1 = cc in omega arith)
+
+pub bad-by : (u : Bool) (n : ℕ) → pick u (some n) none ≡ none → u ≡ false
+unfolding pick
+bad-by true n e = absurd (let z : _≡_ {A = ℕ} 0 1 = cc in omega arith)
+bad-by false n e = refl

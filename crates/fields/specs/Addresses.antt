@@ -1,13 +1,14 @@
 -- What the readers of addresses promise.
 use mathlib.Core.Path.{_≡_}
 use mathlib.Core.Bool.{true}
-use mathlib.Core.List.{List}
+use mathlib.Core.List.{List, map}
 use mathlib.Core.Option.{Option, none, some}
 use Prim.Native.Nat.{ℕ, _≤_}
-use lib.Dec.{leb}
+use lib.Dec.{leb, eqb}
 use lib.ListN.{length, take}
-use Rattle.rules.specs.Lists.{pick, splitOn}
-use Rattle.rules.specs.Fields.{octet, octetByte, addressIf}
+use Rattle.rules.specs.Lists.{pick, joinAll, splitOn, be}
+use Rattle.rules.specs.Fields.{octet, octetByte, group, groupBytes, addressIf}
+use Rattle.fields.specs.declared.groups.GroupsRead.{GroupsRead}
 use Rattle.fields.specs.declared.octets.OctetsRead.{OctetsRead}
 
 -- the bytes that are read
@@ -19,3 +20,14 @@ pub record IsOctets (text : List ℕ) (r : OctetsRead) : Type 0 where
   pub pieces : r .good ≡ true → r .count ≡ length (splitOn 46 text)
   pub few : r .count ≤ 4
   pub long : length (r .bytes) ≡ 4
+
+-- each group as two bytes, the high one first
+unfoldable pub groupsBytes : List ℕ → List ℕ
+groupsBytes groups = joinAll (map (be 2) groups)
+
+unfoldable pub groupsRead : GroupsRead → Option (List ℕ)
+groupsRead r = pick (r .good) (some (groupsBytes (r .groups))) none
+
+pub record IsGroups (text : List ℕ) (r : GroupsRead) : Type 0 where
+  pub says : groupsRead r ≡ addressIf (eqb (length (splitOn 95 text)) 8) group groupBytes (splitOn 95 text)
+  pub long : length (r .groups) ≡ 8

@@ -2,7 +2,9 @@
 ghost use mathlib.Core.Path.{_≡_};
 ghost use Rattle.fields.specs.Views.{groupRead};
 ghost use Rattle.fields.specs.Pieces.{groupOf};
+ghost use Rattle.fields.specs.Addresses.{groupsBytes, IsGroups};
 use crate::hex::hex_digit;
+use crate::pieces::piece_end;
 
 pub enum GroupRead {
     Good(u16),
@@ -30,4 +32,61 @@ fn group(text: &[u8]) -> GroupRead
         i += 1;
     }
     GroupRead::Good(value as u16)
+}
+
+pub struct GroupsRead {
+    pub groups: [u16; 8],
+    pub good: bool,
+}
+
+// Eight groups joined by single underscores.
+pub fn groups(text: &[u8]) -> GroupsRead
+    ensures { λ r. ⌜ IsGroups (now (text .entry)) r ⌝ }
+{
+    let mut groups = [0u16; 8];
+    let n = text.len();
+    let mut count: usize = 0;
+    let mut start: usize = 0;
+    // behind the last piece start is behind the text
+    while start <= n {
+        let end = piece_end(text, start, 95);
+        if 7 < count {
+            return GroupsRead {
+                groups,
+                good: false,
+            };
+        }
+        match group(&text[start..end]) {
+            GroupRead::Good(value) => {
+                groups[count] = value;
+                count += 1;
+                start = end + 1;
+            },
+            GroupRead::Bad => {
+                return GroupsRead {
+                    groups,
+                    good: false,
+                };
+            },
+        }
+    }
+    GroupsRead {
+        groups,
+        good: count == 8,
+    }
+}
+
+// Each group as two bytes, the high one first.
+pub fn address_bytes(groups: [u16; 8]) -> [u8; 16]
+    ensures { λ r. ⌜ r ≡ groupsBytes groups ⌝ }
+{
+    let mut bytes = [0u8; 16];
+    let mut i: usize = 0;
+    while i < 8 {
+        let g = groups[i];
+        bytes[2 * i] = (g / 256 % 256) as u8;
+        bytes[2 * i + 1] = (g % 256) as u8;
+        i += 1;
+    }
+    bytes
 }
