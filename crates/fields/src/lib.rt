@@ -1,4 +1,5 @@
 // The fields of a line, each read by a function of its own. specs/Views.antt says what their answers mean.
+pub mod addresses;
 pub mod codes;
 pub mod groups;
 pub mod hex;
