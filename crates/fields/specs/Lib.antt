@@ -1,3 +1,4 @@
 pub mod Views
 pub mod Counts
 pub mod Pieces
+pub mod Addresses

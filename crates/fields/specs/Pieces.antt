@@ -1,10 +1,13 @@
 -- The pieces of a text between the bytes equal to b, by their places.
 use mathlib.Core.Path.{_≡_}
+use mathlib.Core.Bool.{Bool, not, _||_}
 use mathlib.Core.List.{List, [], _∷_}
+use mathlib.Core.Option.{Option, none, some}
 use Prim.Native.Nat.{ℕ, zero, suc, _+_, _≤_}
 use lib.Dec.{eqb}
 use lib.ListN.{length, drop}
 use Rattle.rules.specs.Lists.{pick, splitOn}
+use Rattle.rules.specs.Fields.{decimalFrom, hexFrom, firstIsZero, octet, group}
 
 -- the place of the first byte b, or the length
 unfoldable pub firstAt : ℕ → List ℕ → ℕ
@@ -26,3 +29,14 @@ behindByte b (x ∷ xs) = splitOn b xs
 unfoldable pub piecesFrom : ℕ → List ℕ → ℕ → List (List ℕ)
 piecesFrom b text zero = splitOn b text
 piecesFrom b text (suc end) = behindByte b (drop end text)
+
+-- a zero stands in front of more
+unfoldable pub leadingZero : List ℕ → Bool
+leadingZero t = not (eqb (length t) 1 || not (firstIsZero t))
+
+-- one number of an IPv4 address, and one group of an IPv6 address
+unfoldable pub octetOf : List ℕ → Option ℕ
+octetOf t = pick (octet t) (some (decimalFrom 0 t)) none
+
+unfoldable pub groupOf : List ℕ → Option ℕ
+groupOf t = pick (group t) (some (hexFrom 0 t)) none

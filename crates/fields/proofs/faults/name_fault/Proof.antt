@@ -1,0 +1,22 @@
+use Rattle.fields.proofs.FieldFault.{fault·laws}
+use borrow.Author.Needs.{needs}
+use Rattle.fields.proofs.faults.name_fault.Statement.{statement}
+use Rattle.fields.proofs.faults.name_fault.Tie as tie
+
+judge-name-requires : tie.Need-judge-name-requires
+judge-name-requires c κs = search fault·laws
+
+enum-told : tie.Need-enum-told
+enum-told c = search fault·laws
+
+enum-told-2 : tie.Need-enum-told-2
+enum-told-2 c = search fault·laws
+
+returns : tie.Need-returns
+returns c = search fault·laws
+
+returns-2 : tie.Need-returns-2
+returns-2 c = search fault·laws
+
+pub name-fault-spec : {M : Type 1} → statement M
+name-fault-spec = tie.close (tie.spec judge-name-requires enum-told enum-told-2 returns returns-2)
