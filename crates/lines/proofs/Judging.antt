@@ -1,15 +1,15 @@
 -- The laws of judging a line.
-use mathlib.Core.Path.{_≡_, refl, ap, _∙_, sym}
-use mathlib.Core.Bool.{Bool, true, false}
+use mathlib.Core.Path.{_≡_, refl, ap, ap₂, _∙_, sym}
+use mathlib.Core.Bool.{Bool, true, false, not}
 use mathlib.Core.List.{List, [], _∷_, _++_, map}
 use Prim.Native.Nat.{ℕ, zero, suc, _+_, _-_, _<_, _≤_}
 use native.Mathlib.Numerals.{add-one}
 use native.Mathlib.Omega.{arith}
 use borrow.Author.Needs.{needs}
-use borrow.Author.Tests.{eq-eqb, ne-eqb, lt-ltb, le-ltb, leb-true, leb-false}
+use borrow.Author.Tests.{eq-eqb, ne-eqb, lt-ltb, le-ltb, leb-true, leb-false, not-true, not-false}
 use lib.Dec.{ltb, leb}
 use lib.ListN.{length, getD, take, drop, replicate, length-map, List·getD-append, List·getD-map, drop-of-length-le}
-use lib.Seq.{drop-cons}
+use lib.Seq.{drop-cons, getD-take, take-at, length-take-le}
 use Rattle.rules.specs.Lists.{pick, splitOn}
 use Rattle.rules.specs.Kinds.{strip, ignored, kindOf, common, meanings, fieldCount, fieldAt}
 use Rattle.rules.specs.Fields.{faultOf}
@@ -51,13 +51,14 @@ meaning-code Meaning.LocationLo = refl
 meaning-code Meaning.Prefix = refl
 meaning-code Meaning.Text = refl
 
--- a code within the count stands for the meaning there
-meaning-at : (kind : Kind) (i : ℕ) → i < fieldCount kind → meaningOf (getD (codes kind) i 0) ≡ getD (meanings kind) i Meaning.Owner
+-- a kind's codes stand for its meanings
+meanings-back : (ms : List Meaning) → map meaningOf (map codeOf ms) ≡ ms
+meanings-back [] = refl
+meanings-back (m ∷ ms) = ap₂ (λ (x : Meaning) (xs : List Meaning). x ∷ xs) (meaning-code m) (meanings-back ms)
+
+codes-mean : (kind : Kind) → map meaningOf (take (fieldCount kind) (codes kind)) ≡ meanings kind
 unfolding codes fieldCount
-meaning-at kind i h =
-    let l : i < length (map codeOf (meanings kind)) = omega (arith, length-map (meanings kind) codeOf) in
-    ap meaningOf (List·getD-append (map codeOf (meanings kind)) (replicate (11 - fieldCount kind) 15) 0 i l ∙ List·getD-map codeOf (meanings kind) i Meaning.Owner)
-    ∙ meaning-code (getD (meanings kind) i Meaning.Owner)
+codes-mean kind = ap (map meaningOf) (take-at (map codeOf (meanings kind)) _ (length (meanings kind)) (length-map (meanings kind) codeOf)) ∙ meanings-back (meanings kind)
 
 pub count-most : (kind : Kind) → fieldCount kind ≤ 11
 unfolding fieldCount meanings common
@@ -76,43 +77,38 @@ count-most Kind.Generic = omega arith
 count-most Kind.Unknown = omega arith
 
 -- the fields from field i on have the fault of all
-unfoldable pub Going : List ℕ → Kind → ℕ → Type 0
-Going s kind i = fieldsFault i (drop i (meanings kind)) (splitOn 58 s) ≡ fieldsFault 0 (meanings kind) (splitOn 58 s)
+unfoldable pub Going : List ℕ → List ℕ → ℕ → ℕ → Type 0
+Going s codes count i = fieldsFault i (drop i (map meaningOf (take count codes))) (splitOn 58 s) ≡ fieldsFault 0 (map meaningOf (take count codes)) (splitOn 58 s)
 
-pub begin-fields : (s : List ℕ) (kind : Kind) → Going s kind 0
+pub begin-fields : (s codes : List ℕ) (count : ℕ) → Going s codes count 0
 unfolding Going
-begin-fields s kind = refl
+begin-fields s codes count = refl
 
-module _ (s : List ℕ) (kind : Kind) (row : Row) (i : ℕ) (e : row ≡ rowOf kind) (g : Going s kind i) where
-  count-is : row .count ≡ fieldCount kind
-  unfolding rowOf
-  count-is = ap (λ (r : Row). r .count) e
+module _ (s codes : List ℕ) (count i : ℕ) (g : Going s codes count i) (long : length codes ≡ 11) (few : count ≤ 11) where
+  count-is : length (map meaningOf (take count codes)) ≡ count
+  count-is = length-map (take count codes) meaningOf ∙ length-take-le count codes (omega arith)
 
-  pub count-fits : row .count ≤ 11
-  count-fits = omega (arith, count-is, count-most kind)
+  pub all-good : count ≤ i → i ≤ count → record { fault = Fault.Done; field = 0 } ≡ fieldsFault 0 (map meaningOf (take count codes)) (splitOn 58 s)
+  unfolding Going fieldsFault noFault
+  all-good h k = rw (drop-of-length-le (map meaningOf (take count codes)) {i = i} (omega (arith, count-is))) at g
 
-  pub all-good : row .count ≤ i → i ≤ row .count → record { fault = Fault.Done; field = 0 } ≡ fieldsFault 0 (meanings kind) (splitOn 58 s)
-  unfolding Going fieldsFault fieldCount noFault
-  all-good h k = rw (drop-of-length-le (meanings kind) {i = i} (omega (arith, count-is))) at g
+  module _ (f : Fault) (done : Bool) (l : i < count) (p : f ≡ faultOf (meaningOf (getD codes i 0)) (fieldAt (splitOn 58 s) i)) (d : done ≡ isDone f) where
+    meaning-is : getD (map meaningOf (take count codes)) i (meaningOf 0) ≡ meaningOf (getD codes i 0)
+    meaning-is = List·getD-map meaningOf (take count codes) i 0 ∙ ap meaningOf (getD-take count codes i 0 l)
 
-  module _ (f : Fault) (done : Bool) (l : i < row .count) (p : f ≡ faultOf (meaningOf (getD (row .meanings) i 0)) (fieldAt (splitOn 58 s) i)) (d : done ≡ isDone f) where
-    fault-is : f ≡ faultOf (getD (meanings kind) i Meaning.Owner) (fieldAt (splitOn 58 s) i)
-    unfolding rowOf
-    fault-is = p ∙ ap (λ (r : Row). faultOf (meaningOf (getD (r .meanings) i 0)) (fieldAt (splitOn 58 s) i)) e ∙ ap (λ (m : Meaning). faultOf m (fieldAt (splitOn 58 s) i)) (meaning-at kind i (omega (arith, count-is)))
+    step : fieldsFault 0 (map meaningOf (take count codes)) (splitOn 58 s) ≡ pick done (fieldsFault (suc i) (drop (suc i) (map meaningOf (take count codes))) (splitOn 58 s)) (record { fault = f; field = suc i })
+    unfolding Going fieldsFault thenFault
+    step = sym g ∙ rw (drop-cons (map meaningOf (take count codes)) i (meaningOf 0) (omega (arith, count-is)), meaning-is, ← p, ← d)
 
-    step : fieldsFault 0 (meanings kind) (splitOn 58 s) ≡ pick done (fieldsFault (suc i) (drop (suc i) (meanings kind)) (splitOn 58 s)) (record { fault = f; field = suc i })
-    unfolding Going fieldsFault thenFault fieldCount
-    step = sym g ∙ rw (drop-cons (meanings kind) i Meaning.Owner (omega (arith, count-is)), ← fault-is, ← d)
-
-    pub next-field : done ≡ true → Going s kind (i + 1)
+    pub next-field : done ≡ true → Going s codes count (i + 1)
     unfolding Going pick
     next-field t = rw (add-one i) (sym (step ∙ rw t))
 
-    pub first-fault : done ≡ false → record { fault = f; field = i + 1 } ≡ fieldsFault 0 (meanings kind) (splitOn 58 s)
+    pub first-fault : done ≡ false → record { fault = f; field = i + 1 } ≡ fieldsFault 0 (map meaningOf (take count codes)) (splitOn 58 s)
     unfolding pick
     first-fault t = rw (add-one i) (sym (step ∙ rw t))
 
-pub ruleset fields·laws = (needs, begin-fields, count-fits, all-good, next-field, first-fault)
+pub ruleset fields·laws = (needs, begin-fields, all-good, next-field, first-fault)
 
 -- ---- a kind
 
@@ -133,17 +129,21 @@ module _ (s : List ℕ) (kind : Kind) (row : Row) (e : row ≡ rowOf kind) where
     unfolding kindFault pick
     known = rw (ne-eqb (fieldCount kind) 0 (λ z. some (rows ∙ z)))
 
-    pub too-many : fields .fits ≡ false → record { fault = Fault.TooManyFields; field = 0 } ≡ kindFault kind (splitOn 58 s)
+    pub too-many : not (fields .fits) ≡ true → record { fault = Fault.TooManyFields; field = 0 } ≡ kindFault kind (splitOn 58 s)
     unfolding wholeLine pick
-    too-many t = sym (known ∙ rw (lt-ltb (fieldCount kind) (length (splitOn 58 s)) (omega (arith, rows, leb-false (length (splitOn 58 s)) (row .count) (sym (p .says) ∙ t)))))
+    too-many t = sym (known ∙ rw (lt-ltb (fieldCount kind) (length (splitOn 58 s)) (omega (arith, rows, leb-false (length (splitOn 58 s)) (row .count) (sym (p .says) ∙ not-true (fields .fits) t)))))
 
-    pub spans-of : fields .fits ≡ true → FieldsOf s (fields .spans)
-    spans-of t = p .each t
+    pub spans-of : not (fields .fits) ≡ false → FieldsOf s (fields .spans)
+    spans-of t = p .each (not-false (fields .fits) t)
 
-    module _ (fits : fields .fits ≡ true) (first : LineFault) (done : Bool) (f : first ≡ fieldsFault 0 (meanings kind) (splitOn 58 s)) (d : done ≡ isDone (first .fault)) where
+    module _ (fits : not (fields .fits) ≡ false) (first : LineFault) (done : Bool) (f : first ≡ fieldsFault 0 (map meaningOf (take (row .count) (row .meanings))) (splitOn 58 s)) (d : done ≡ isDone (first .fault)) where
+      first-is : first ≡ fieldsFault 0 (meanings kind) (splitOn 58 s)
+      unfolding rowOf
+      first-is = f ∙ ap (λ (r : Row). fieldsFault 0 (map meaningOf (take (r .count) (r .meanings))) (splitOn 58 s)) e ∙ ap (λ (ms : List Meaning). fieldsFault 0 ms (splitOn 58 s)) (codes-mean kind)
+
       enough : kindFault kind (splitOn 58 s) ≡ pick done (joinedFault (joinedNames kind (splitOn 58 s))) first
       unfolding thenFault pick
-      enough = known ∙ rw (le-ltb (fieldCount kind) (length (splitOn 58 s)) (omega (arith, rows, leb-true (length (splitOn 58 s)) (row .count) (sym (p .says) ∙ fits))), ← f, ← d)
+      enough = known ∙ rw (le-ltb (fieldCount kind) (length (splitOn 58 s)) (omega (arith, rows, leb-true (length (splitOn 58 s)) (row .count) (sym (p .says) ∙ not-false (fields .fits) fits))), ← first-is, ← d)
 
       pub field-first : done ≡ false → first ≡ kindFault kind (splitOn 58 s)
       unfolding pick

@@ -1,0 +1,123 @@
+// The first fault of a line.
+ghost use mathlib.Core.Path.{_≡_};
+ghost use Prim.Native.Nat.{_≤_, _<_};
+ghost use mathlib.Core.List.{map};
+ghost use lib.ListN.{length, getD, take};
+ghost use Rattle.rules.specs.Lists.{splitOn};
+ghost use Rattle.rules.specs.Kinds.{fieldAt, ignored};
+ghost use Rattle.rules.specs.Fields.{faultOf};
+ghost use Rattle.rules.specs.Answers.{isDone, fieldsFault, kindFault, lineFault};
+ghost use Rattle.lines.specs.Splits.{FieldsOf};
+ghost use Rattle.lines.specs.Rows.{meaningOf};
+use crate::joined::joined_fault;
+use crate::kinds::kind_of;
+use crate::kinds::meaning_of;
+use crate::kinds::row_of;
+use crate::splits::Span;
+use crate::splits::field;
+use crate::splits::split;
+use crate::strips::stripped;
+use fields::faults::field_fault;
+use rules::faults::Fault;
+use rules::faults::LineFault;
+use rules::faults::is_done;
+use rules::kinds::Kind;
+
+// The fault of field i, read as the meaning of its code.
+fn fault_at(rest: &[u8], spans: [Span; 11], codes: [u8; 11], i: usize) -> Fault
+    requires { ⌜ FieldsOf (now rest) spans × (i < 11) ⌝ }
+    ensures { λ r. ⌜ r ≡ faultOf (meaningOf (getD codes i 0)) (fieldAt (splitOn 58 (now (rest .entry))) i) ⌝ }
+{
+    let code = codes[i];
+    let meaning = meaning_of(code);
+    let text = field(rest, spans, i);
+    field_fault(meaning, text)
+}
+
+// The fields from left to right, as many as the count says.
+fn fields_fault(rest: &[u8], spans: [Span; 11], codes: [u8; 11], count: usize) -> LineFault
+    requires { ⌜ FieldsOf (now rest) spans × (count ≤ 11) ⌝ }
+    ensures { λ r. ⌜ r ≡ fieldsFault 0 (map meaningOf (take count codes)) (splitOn 58 (now (rest .entry))) ⌝ }
+{
+    let mut i: usize = 0;
+    while i < count {
+        let fault = fault_at(rest, spans, codes, i);
+        if is_done(fault) {
+            i += 1;
+        } else {
+            return LineFault {
+                fault,
+                field: i + 1,
+            };
+        }
+    }
+    LineFault {
+        fault: Fault::Done,
+        field: 0,
+    }
+}
+
+fn kind_fault(rest: &[u8], kind: Kind) -> LineFault
+    requires { ⌜ length (now rest) ≤ 1024 ⌝ }
+    ensures { λ r. ⌜ r ≡ kindFault kind (splitOn 58 (now (rest .entry))) ⌝ }
+{
+    let row = row_of(kind);
+    let count = row.count;
+    if count == 0 {
+        return LineFault {
+            fault: Fault::UnknownKind,
+            field: 0,
+        };
+    }
+    let fields = split(rest, count);
+    if !fields.fits {
+        return LineFault {
+            fault: Fault::TooManyFields,
+            field: 0,
+        };
+    }
+    let spans = fields.spans;
+    let codes = row.meanings;
+    let first = fields_fault(rest, spans, codes, count);
+    let fault = first.fault;
+    if is_done(fault) {
+        return joined_fault(rest, spans, kind);
+    }
+    first
+}
+
+// A comment, or a line that is switched off.
+pub fn is_ignored(b: u8) -> bool
+    ensures { λ r. ⌜ r ≡ ignored b ⌝ }
+{
+    if b == 35 {
+        return true;
+    }
+    b == 45
+}
+
+pub fn line_fault(line: &[u8]) -> LineFault
+    ensures { λ r. ⌜ r ≡ lineFault (now (line .entry)) ⌝ }
+{
+    if 1024 < line.len() {
+        return LineFault {
+            fault: Fault::LineTooLong,
+            field: 0,
+        };
+    }
+    let n = stripped(line);
+    if n == 0 {
+        return LineFault {
+            fault: Fault::Done,
+            field: 0,
+        };
+    }
+    let first = line[0];
+    if is_ignored(first) {
+        return LineFault {
+            fault: Fault::Done,
+            field: 0,
+        };
+    }
+    kind_fault(&line[1..n], kind_of(first))
+}
