@@ -32,6 +32,14 @@ module _ (f : ℕ → ℕ) where
       let q : i ≡ length s = omega arith in
       record { count = sym l; room = omega arith; holds = rw l (e ∙ rw (take-all i s h, q)) }
 
+pub nothing : (d : List ℕ) → IsPut [] d d 0
+nothing d = record { count = refl; room = omega arith; holds = refl }
+
+pub two : (d : List ℕ) (a b : ℕ) → 2 ≤ length d → IsPut (a ∷ b ∷ []) d (set (set d 0 a) 1 b) 2
+two [] a b h = absurd (omega arith)
+two (x ∷ []) a b h = absurd (omega arith)
+two (x ∷ y ∷ d) a b h = record { count = refl; room = omega arith; holds = refl }
+
 pub byte : (d : List ℕ) (b : ℕ) → 1 ≤ length d → IsPut (b ∷ []) d (set d 0 b) 1
 byte [] b h = absurd (omega arith)
 byte (x ∷ d) b h = record { count = refl; room = omega arith; holds = refl }
@@ -76,6 +84,25 @@ module _ (x d e : List ℕ) (r : ℕ) (p : IsPut x d e r) where
   pub then-is : (y f z : List ℕ) (k : ℕ) → IsPut y (take (length e - r) (drop r e)) f k → x ++ y ≡ z → IsPut z d (putMid r (length e - r) e f) (r + k)
   then-is y f z k q w = rw w at (then y f k q)
 
+-- what is lent of e from r on, and e when f has come back for it
+abbrev pub lentAt : ℕ → List ℕ → List ℕ
+lentAt r e = take (length e - r) (drop r e)
+
+abbrev pub backAt : ℕ → List ℕ → List ℕ → List ℕ
+backAt r e f = putMid r (length e - r) e f
+
+-- three writers and four, each behind the last
+module _ (x d e : List ℕ) (r : ℕ) (p : IsPut x d e r) (y f : List ℕ) (k : ℕ) (q : IsPut y (lentAt r e) f k) where
+  pub then-two : (z g w : List ℕ) (m : ℕ) → IsPut z (lentAt (r + k) (backAt r e f)) g m → x ++ y ++ z ≡ w
+      → IsPut w d (backAt (r + k) (backAt r e f) g) (r + k + m)
+  then-two z g w m s = then-is (x ++ y) d (backAt r e f) (r + k) (then x d e r p y f k q) z g w m s
+
+  module _ (z g : List ℕ) (m : ℕ) (s : IsPut z (lentAt (r + k) (backAt r e f)) g m) where
+    pub then-three : (u h w : List ℕ) (n : ℕ) → IsPut u (lentAt (r + k + m) (backAt (r + k) (backAt r e f) g)) h n → x ++ y ++ z ++ u ≡ w
+        → IsPut w d (backAt (r + k + m) (backAt (r + k) (backAt r e f) g) h) (r + k + m + n)
+    then-three u h w n t =
+        then-is (x ++ y ++ z) d (backAt (r + k) (backAt r e f) g) (r + k + m) (then-two z g (x ++ y ++ z) m s refl) u h w n t
+
 -- a run of writes, each behind the last: what is written is the front of the buffer itself, so that a loop's invariant can say it
 abbrev pub Run : List ℕ → List ℕ → ℕ → Type 0
 Run d e r = IsPut (take r e) d e r
@@ -93,4 +120,4 @@ module _ (d e : List ℕ) (r : ℕ) (p : Run d e r) (y f : List ℕ) (k : ℕ) (
   pub run-more : Run d (putMid r (length e - r) e f) (r + k)
   run-more = rw run-front (then (take r e) d e r p y f k q)
 
-pub ruleset put·laws = (needs, byte, then-is, within)
+pub ruleset put·laws = (needs, nothing, byte, two, then-is, within)
