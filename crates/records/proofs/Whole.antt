@@ -68,28 +68,8 @@ location-is prefix lo l e =
     let k : length (0 ∷ 37 ∷ prefix) ≡ 2 + length prefix = omega arith in
     rw (k, e)
 
--- data of several parts
-pub srv-length : (priority : Priority) (weight : Weight) (port : Port) (host : List ℕ) → 6 + length host ≡ length (srvData priority weight port host)
-unfolding srvData
-srv-length priority weight port host = simp (length-append, length-be) (omega arith)
-
 pub mx-is : (shared : Shared) (owner : List ℕ) (dist : ℕ) (host : List ℕ)
     → headOf shared owner 15 (2 + length host) ++ be 2 dist ++ host ≡ encode (resourceOf shared owner 15 (be 2 dist ++ host))
 mx-is shared owner dist host =
     let n : 2 + length host ≡ length (be 2 dist ++ host) = simp (length-append, length-be) in
     append-assoc (headOf shared owner 15 (2 + length host)) (be 2 dist) host ∙ record-is shared owner 15 (2 + length host) (be 2 dist ++ host) n
-
-module _ (mname rname : List ℕ) (serial refresh retry expire minimum : ℕ) where
-  pub soa-length : 20 + length mname + length rname ≡ length (soaData mname rname serial refresh retry expire minimum)
-  unfolding soaData
-  soa-length = simp (length-append, length-be) (omega arith)
-
-  pub soa-is : mname ++ rname ++ (be 4 serial ++ be 4 refresh ++ be 4 retry ++ be 4 expire ++ be 4 minimum)
-      ≡ soaData mname rname serial refresh retry expire minimum
-  unfolding soaData
-  soa-is = simp append-assoc
-
-pub srv-is : (priority : Priority) (weight : Weight) (port : Port) (host : List ℕ)
-    → be 2 (priority .0) ++ be 2 (weight .0) ++ be 2 (port .0) ++ host ≡ srvData priority weight port host
-unfolding srvData
-srv-is priority weight port host = refl

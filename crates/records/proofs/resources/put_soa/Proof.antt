@@ -1,6 +1,7 @@
 use borrow.Author.Needs.{needs}
 use Rattle.wire.proofs.Puts.{then-is}
-use Rattle.records.proofs.Whole.{record-is, soa-length}
+use Rattle.records.proofs.Whole.{record-is}
+use Rattle.rdata.proofs.Sizes.{soa-length}
 use Rattle.records.proofs.resources.put_soa.Statement.{statement}
 use Rattle.records.proofs.resources.put_soa.Tie as tie
 

@@ -1,6 +1,7 @@
 use borrow.Author.Needs.{needs}
 use Rattle.wire.proofs.Puts.{then-is}
-use Rattle.records.proofs.Whole.{record-is, srv-length}
+use Rattle.records.proofs.Whole.{record-is}
+use Rattle.rdata.proofs.Sizes.{srv-length}
 use Rattle.records.proofs.resources.put_srv.Statement.{statement}
 use Rattle.records.proofs.resources.put_srv.Tie as tie
 

@@ -1,7 +1,7 @@
 use borrow.Author.Needs.{needs}
 use Rattle.wire.proofs.Puts.{put·laws}
-use Rattle.records.proofs.rdata.put_two_u32.Statement.{statement}
-use Rattle.records.proofs.rdata.put_two_u32.Tie as tie
+use Rattle.rdata.proofs.parts.put_two_u32.Statement.{statement}
+use Rattle.rdata.proofs.parts.put_two_u32.Tie as tie
 
 put-u32-requires : tie.Need-put-u32-requires
 put-u32-requires c κs = search needs

@@ -1,8 +1,8 @@
 use borrow.Author.Needs.{needs}
 use Rattle.wire.proofs.Puts.{then-two}
 use mathlib.Core.List.{append-assoc}
-use Rattle.records.proofs.rdata.put_soa_numbers.Statement.{statement}
-use Rattle.records.proofs.rdata.put_soa_numbers.Tie as tie
+use Rattle.rdata.proofs.parts.put_soa_numbers.Statement.{statement}
+use Rattle.rdata.proofs.parts.put_soa_numbers.Tie as tie
 
 put-two-u32-requires : tie.Need-put-two-u32-requires
 put-two-u32-requires c κs = search needs

@@ -1,8 +1,8 @@
 use borrow.Author.Needs.{needs}
 use Rattle.wire.proofs.Puts.{then-two}
-use Rattle.records.proofs.Whole.{soa-is}
-use Rattle.records.proofs.rdata.put_soa_data.Statement.{statement}
-use Rattle.records.proofs.rdata.put_soa_data.Tie as tie
+use Rattle.rdata.proofs.Sizes.{soa-is}
+use Rattle.rdata.proofs.parts.put_soa_data.Statement.{statement}
+use Rattle.rdata.proofs.parts.put_soa_data.Tie as tie
 
 put-bytes-requires : tie.Need-put-bytes-requires
 put-bytes-requires c κs = search needs

@@ -1,8 +1,8 @@
 use borrow.Author.Needs.{needs}
 use Rattle.wire.proofs.Puts.{then-three}
-use Rattle.records.proofs.Whole.{srv-is}
-use Rattle.records.proofs.rdata.put_srv_data.Statement.{statement}
-use Rattle.records.proofs.rdata.put_srv_data.Tie as tie
+use Rattle.rdata.proofs.Sizes.{srv-is}
+use Rattle.rdata.proofs.parts.put_srv_data.Statement.{statement}
+use Rattle.rdata.proofs.parts.put_srv_data.Tie as tie
 
 put-u16-requires : tie.Need-put-u16-requires
 put-u16-requires c κs = search needs

@@ -1,0 +1,2 @@
+// Record data, and the names that are put together for records, written into the front of a lent buffer.
+pub mod parts;
