@@ -1,24 +1,22 @@
 -- The laws of a record's head.
-use mathlib.Core.Path.{_≡_, refl, ap, _∙_, sym}
-use mathlib.Core.Bool.{Bool, true, false, _&&_}
-use mathlib.Core.List.{List, [], _∷_, _++_, map, append-assoc, append-nil}
-use Prim.Native.Nat.{ℕ, zero, suc, _+_, _-_, _<_, _≤_}
+use mathlib.Core.Path.{_≡_, _∙_, sym}
+use mathlib.Core.Bool.{Bool, true, false}
+use mathlib.Core.List.{List, [], _∷_, _++_, map}
+use Prim.Native.Nat.{ℕ, _+_, _-_, _<_, _≤_}
 use native.Mathlib.Omega.{arith}
 use borrow.Author.Needs.{needs}
-use borrow.Author.Tests.{eq-eqb, ne-eqb}
-use lib.Dec.{eqb}
-use lib.ListN.{length, getD, take, drop, set, length-append, length-map, length-drop}
+use borrow.Author.Tests.{ne-eqb}
+use lib.ListN.{length, getD, take, drop, length-drop}
 use Rattle.rules.specs.declared.quantities.Lo.{Lo}
 use Rattle.rules.specs.declared.quantities.Shared.{Shared}
 use Rattle.rules.specs.Lists.{pick, lower, be, le, beginsWith}
-use Rattle.rules.specs.Records.{Record, resource, loBytes, resourceOf}
-use Rattle.rules.specs.Bytes.{wild, unstarred, keyOf, flagAndLo, rdataOf, fixedOf, dataOf, encode}
+use Rattle.rules.specs.Records.{loBytes}
+use Rattle.rules.specs.Bytes.{wild, unstarred, flagAndLo}
 use Rattle.wire.specs.Put.{IsPut}
-use Rattle.wire.proofs.Numbers.{length-le, length-be}
 use Rattle.wire.proofs.Parts.{tail-lent}
-use Rattle.wire.proofs.Puts.{nothing, then-two, then-three}
+use Rattle.wire.proofs.Puts.{nothing}
 use Rattle.wire.proofs.Compare.{too-short, longer}
-use Rattle.records.specs.Head.{ownerKey, keySize, flagOf, fixedFields, fixedSize, headOf, headSize}
+use Rattle.records.specs.Head.{ownerKey, keySize, flagOf, fixedFields, fixedSize, headOf}
 
 -- the star label
 module _ (owner : List ℕ) where

@@ -1,17 +1,14 @@
 -- A whole record is its head and its data, and the sizes of both.
 use mathlib.Core.Path.{_≡_, refl, ap, _∙_, sym}
 use mathlib.Core.Bool.{Bool, true, false}
-use mathlib.Core.List.{List, [], _∷_, _++_, map, append-assoc, append-nil}
-use Prim.Native.Nat.{ℕ, _+_, _-_, _≤_}
+use mathlib.Core.List.{List, [], _∷_, _++_, append-assoc}
+use Prim.Native.Nat.{ℕ, _+_, _-_}
 use native.Mathlib.Omega.{arith}
 use lib.ListN.{length, drop, length-append, length-map, length-drop}
 use Rattle.rules.specs.declared.quantities.Lo.{Lo}
 use Rattle.rules.specs.declared.quantities.Shared.{Shared}
-use Rattle.rules.specs.declared.quantities.Port.{Port}
-use Rattle.rules.specs.declared.quantities.Priority.{Priority}
-use Rattle.rules.specs.declared.quantities.Weight.{Weight}
 use Rattle.rules.specs.Lists.{pick, lower, be, le}
-use Rattle.rules.specs.Records.{Record, location, resource, loBytes, resourceOf, srvData, soaData}
+use Rattle.rules.specs.Records.{Record, location, resource, loBytes, resourceOf}
 use Rattle.rules.specs.Bytes.{wild, unstarred, keyOf, flagAndLo, rdataOf, fixedOf, dataOf, encode, size}
 use Rattle.wire.proofs.Numbers.{length-le, length-be}
 use Rattle.records.specs.Head.{ownerKey, keySize, fixedFields, fixedSize, headOf, headSize}

@@ -4,7 +4,7 @@ ghost use mathlib.Core.List.{_++_};
 ghost use Prim.Native.Nat.{_+_, _≤_};
 ghost use lib.ListN.{length};
 ghost use Rattle.rules.specs.Lists.{be};
-ghost use Rattle.rules.specs.Records.{resourceOf, srvData, soaData};
+ghost use Rattle.rules.specs.Records.{resourceOf, chunks, srvData, soaData};
 ghost use Rattle.rules.specs.Bytes.{encode};
 ghost use Rattle.wire.specs.Put.{IsPut};
 ghost use Rattle.records.specs.Head.{headSize};
@@ -12,6 +12,8 @@ use crate::heads::put_head;
 use rdata::parts::SoaNumbers;
 use rdata::parts::put_soa_data;
 use rdata::parts::put_srv_data;
+use rdata::texts::chunks_size;
+use rdata::texts::put_chunks;
 use rules::quantities::Port;
 use rules::quantities::Priority;
 use rules::quantities::Shared;
@@ -69,4 +71,14 @@ pub fn put_soa(
 {
     let used = put_head(out, owner, 6, shared, 20 + mname.len() + rname.len());
     used + put_soa_data(&mut out[used..], mname, rname, numbers)
+}
+
+pub fn put_text_record(out: &mut [u8], owner: &[u8], shared: Shared, text: &[u8]) -> usize
+    requires { ⌜ headSize shared (now owner) + length (chunks (now text)) ≤ length (now out) ⌝ }
+    requires { ⌜ length (now text) ≤ 1024 ⌝ }
+    ensures { λ r. ⌜ IsPut (encode (resourceOf shared (now (owner .entry)) 16 (chunks (now (text .entry))))) (now (out .entry)) (now (out .exit)) r ⌝ }
+    ensures { λ r. ⌜ r ≡ headSize shared (now (owner .entry)) + length (chunks (now (text .entry))) ⌝ }
+{
+    let used = put_head(out, owner, 16, shared, chunks_size(text));
+    used + put_chunks(&mut out[used..], text)
 }

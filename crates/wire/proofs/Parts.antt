@@ -1,11 +1,11 @@
 -- The part of a slice from a place to its end, `&mut d[a..]`: what is lent, and the whole when it has come back.
-use mathlib.Core.Path.{_≡_, _∙_, ap}
-use mathlib.Core.List.{List, [], _++_, append-nil}
-use Prim.Native.Nat.{ℕ, _+_, _-_, _<_, _≤_}
+use mathlib.Core.Path.{_≡_}
+use mathlib.Core.List.{List, _++_, append-nil}
+use Prim.Native.Nat.{ℕ, _-_, _≤_}
 use native.Mathlib.Omega.{arith}
 use lib.ListN.{length, take, drop, length-drop, drop-of-length-le}
 use lib.Seq.{take-all}
-use borrow.Rule.Slice.PartMut.{putMid, postOf, post-is}
+use borrow.Rule.Slice.PartMut.{putMid, post-is}
 
 pub tail-lent : {A : Type 0} (d : List A) (a : ℕ) → take (length d - a) (drop a d) ≡ drop a d
 tail-lent d a = take-all (length d - a) (drop a d) (omega (arith, length-drop a d))

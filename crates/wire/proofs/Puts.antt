@@ -1,6 +1,6 @@
 -- The laws of bytes put at the front of a lent buffer.
 use mathlib.Core.Path.{_≡_, refl, ap, _∙_, sym}
-use mathlib.Core.List.{List, [], _∷_, _++_, map, map-append, append-assoc}
+use mathlib.Core.List.{List, [], _∷_, _++_, map, map-append, append-assoc, append-nil}
 use Prim.Native.Nat.{ℕ, _+_, _-_, _<_, _≤_}
 use native.Mathlib.Numerals.{add-one}
 use native.Mathlib.Omega.{arith}
@@ -119,5 +119,12 @@ module _ (d e : List ℕ) (r : ℕ) (p : Run d e r) (y f : List ℕ) (k : ℕ) (
 
   pub run-more : Run d (putMid r (length e - r) e f) (r + k)
   run-more = rw run-front (then (take r e) d e r p y f k q)
+
+  pub run-length : length (putMid r (length e - r) e f) ≡ length d
+  run-length = put-length (take (r + k) (putMid r (length e - r) e f)) d (putMid r (length e - r) e f) (r + k) run-more
+
+-- a run that has nothing left to write
+pub run-whole : (x d e : List ℕ) (r : ℕ) → Run d e r → take r e ++ [] ≡ x → IsPut x d e r
+run-whole x d e r run q = rw (sym (append-nil (take r e)) ∙ q) at run
 
 pub ruleset put·laws = (needs, nothing, byte, two, then-is, within)
