@@ -11,11 +11,11 @@ use wire::put::put_bytes;
 use wire::put::put_two;
 
 // in-addr.arpa, ip6.arpa and hostmaster on the wire.
-const IN_ADDR_ARPA: [u8; 14] = [7, 105, 110, 45, 97, 100, 100, 114, 4, 97, 114, 112, 97, 0];
+const IN_ADDR_ARPA: [u8; 14] = *b"\x07in-addr\x04arpa\x00";
 
-const IP6_ARPA: [u8; 10] = [3, 105, 112, 54, 4, 97, 114, 112, 97, 0];
+const IP6_ARPA: [u8; 10] = *b"\x03ip6\x04arpa\x00";
 
-const HOSTMASTER: [u8; 11] = [10, 104, 111, 115, 116, 109, 97, 115, 116, 101, 114];
+const HOSTMASTER: [u8; 11] = *b"\x0ahostmaster";
 
 // The name of a zone's contact: hostmaster, and the owner behind it.
 pub fn put_contact(out: &mut [u8], owner: &[u8]) -> usize
@@ -28,6 +28,7 @@ pub fn put_contact(out: &mut [u8], owner: &[u8]) -> usize
     used + put_bytes(&mut out[used..], owner)
 }
 
+// A hex digit in lower case: 10 is `a`, which is byte 97.
 fn hex_digit(n: u8) -> u8
     requires { ⌜ n ≤ 15 ⌝ }
     ensures { λ r. ⌜ r ≡ hexDigit n ⌝ }
@@ -35,7 +36,7 @@ fn hex_digit(n: u8) -> u8
     if 9 < n {
         return 87 + n;
     }
-    48 + n
+    b'0' + n
 }
 
 // The two hex digits of a byte, the lower first, each a label.
@@ -55,14 +56,14 @@ fn put_decimal_label(out: &mut [u8], n: u8) -> usize
     ensures { λ r. ⌜ r ≤ 4 ⌝ }
 {
     if 99 < n {
-        let used = put_two(out, 3, 48 + n / 100);
-        return used + put_two(&mut out[used..], 48 + n / 10 % 10, 48 + n % 10);
+        let used = put_two(out, 3, b'0' + n / 100);
+        return used + put_two(&mut out[used..], b'0' + n / 10 % 10, b'0' + n % 10);
     }
     if 9 < n {
-        let used = put_two(out, 2, 48 + n / 10);
-        return used + put_byte(&mut out[used..], 48 + n % 10);
+        let used = put_two(out, 2, b'0' + n / 10);
+        return used + put_byte(&mut out[used..], b'0' + n % 10);
     }
-    put_two(out, 1, 48 + n)
+    put_two(out, 1, b'0' + n)
 }
 
 // The bytes of an address, the last first, each a label of decimal digits.

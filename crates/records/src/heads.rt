@@ -28,15 +28,16 @@ pub fn is_wild(owner: &[u8]) -> bool
     if owner[0] != 1 {
         return false;
     }
-    if owner[1] != 42 {
+    if owner[1] != b'*' {
         return false;
     }
     true
 }
 
 // How many bytes of key an owner makes.
-pub fn key_size(owner: &[u8]) -> usize
+fn key_size(owner: &[u8]) -> usize
     ensures { λ r. ⌜ r ≡ keySize (now (owner .entry)) ⌝ }
+    ensures { λ r. ⌜ r ≤ length (now (owner .entry)) ⌝ }
 {
     if is_wild(owner) {
         return owner.len() - 2;
@@ -67,21 +68,21 @@ pub fn put_lo(out: &mut [u8], lo: Lo) -> usize
 }
 
 // The byte that says whether the record is a wildcard's and whether lo follows.
-pub fn flag(wild: bool, lo: Lo) -> u8
+fn flag(wild: bool, lo: Lo) -> u8
     ensures { λ r. ⌜ r ≡ flagOf wild lo ⌝ }
 {
     match lo {
         Lo::Every => {
             if wild {
-                return 42;
+                return b'*';
             }
-            61
+            b'='
         }
         Lo::Code(_, _) => {
             if wild {
-                return 43;
+                return b'+';
             }
-            62
+            b'>'
         }
     }
 }
@@ -130,6 +131,16 @@ fn put_fixed(out: &mut [u8], owner: &[u8], rtype: u16, shared: Shared) -> usize
     let b = a + put_flag(&mut out[a..], is_wild(owner), lo);
     let c = b + put_u32(&mut out[b..], ttl.0);
     c + put_u64(&mut out[c..], time.0)
+}
+
+// How many bytes a record takes before its data.
+pub fn head_size(owner: &[u8], shared: Shared) -> usize
+    requires { ⌜ length (now owner) ≤ 255 ⌝ }
+    ensures { λ r. ⌜ r ≡ headSize shared (now (owner .entry)) ⌝ }
+    ensures { λ r. ⌜ r ≤ 25 + length (now (owner .entry)) ⌝ }
+{
+    let lo = shared.lo;
+    23 + key_size(owner) + lo_size(lo)
 }
 
 // All of a record before its data, for which there is room too.

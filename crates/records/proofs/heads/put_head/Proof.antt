@@ -65,7 +65,7 @@ returns c =
     let key = fixed .before .before .before .before in
     let lengths = key .before .before .before .before in (
       then-two _ _ _ _ (lengths .put-lengths .ensures .0) _ _ _ (key .put-key .ensures .0) _ _ _ _ (fixed .put-fixed .ensures .0)
-          (head-is _ _ _ _ _ _ (lengths .before .before .key-size .ensures) (lengths .before .lo-size .ensures .0)),
+          (head-is _ _ _ _ _ _ (lengths .before .before .key-size .ensures .0) (lengths .before .lo-size .ensures .0)),
       search needs,
     )
 
