@@ -12,8 +12,8 @@ use lib.Seq.{take-all, length-take-le, drop-drop}
 use Rattle.rules.specs.Lists.{pick}
 use Rattle.rules.specs.Records.{chunksFrom, chunks}
 use Rattle.wire.specs.Put.{IsPut}
-use Rattle.wire.proofs.Parts.{tail-lent}
-use Rattle.wire.proofs.Puts.{Run, run-none, run-front, run-more, run-length, run-whole, lentAt, backAt}
+use Rattle.wire.proofs.Parts.{lentAt, backAt, tail-lent}
+use Rattle.wire.proofs.Puts.{Run, run-none, run-front, run-more, run-length, run-whole}
 use Rattle.rdata.specs.Chunks.{chunkSize}
 
 -- any count of turns that suffices gives the same

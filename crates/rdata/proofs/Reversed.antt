@@ -9,7 +9,8 @@ use lib.Seq.{take-suc, take-all}
 use Rattle.rules.specs.Lists.{pick, joinAll}
 use Rattle.rules.specs.Records.{decimalLabel, nibbleLabels, inAddrArpa, ip6Arpa, reverseName}
 use Rattle.wire.specs.Put.{IsPut}
-use Rattle.wire.proofs.Puts.{Run, run-front, run-whole, lentAt, backAt}
+use Rattle.wire.proofs.Parts.{lentAt, backAt}
+use Rattle.wire.proofs.Puts.{Run, run-front, run-whole}
 
 module _ (f : ℕ → List ℕ) where
   step : (a : List ℕ) (i : ℕ) → 0 < i → i ≤ length a

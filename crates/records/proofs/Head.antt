@@ -19,10 +19,9 @@ use Rattle.wire.proofs.Compare.{too-short, longer}
 use Rattle.records.specs.Head.{ownerKey, keySize, flagOf, fixedFields, fixedSize, headOf}
 
 -- the star label
-module _ (owner : List ℕ) where
-  pub wild-short : length owner < 2 → false ≡ wild owner
-  unfolding wild
-  wild-short h = too-short (1 ∷ 42 ∷ []) owner h
+pub wild-short : (owner : List ℕ) → length owner < 2 → false ≡ wild owner
+unfolding wild
+wild-short owner h = too-short (1 ∷ 42 ∷ []) owner h
 
 pub wild-first : (owner : List ℕ) → 2 ≤ length owner → (getD owner 0 0 ≡ 1 → ⊥) → false ≡ wild owner
 unfolding wild beginsWith

@@ -65,6 +65,11 @@ location-is prefix lo l e =
     let k : length (0 ∷ 37 ∷ prefix) ≡ 2 + length prefix = omega arith in
     rw (k, e)
 
+pub location-size : (prefix : List ℕ) (lo : Lo) → size (location prefix (loBytes lo)) ≡ 10 + length prefix + length (loBytes lo)
+unfolding size keyOf dataOf fixedOf rdataOf
+location-size prefix lo = omega arith
+
+-- the data of an MX record are in two parts
 pub mx-is : (shared : Shared) (owner : List ℕ) (dist : ℕ) (host : List ℕ)
     → headOf shared owner 15 (2 + length host) ++ be 2 dist ++ host ≡ encode (resourceOf shared owner 15 (be 2 dist ++ host))
 mx-is shared owner dist host =
