@@ -6,6 +6,7 @@ use Prim.Native.Nat.{ℕ, suc, _+_, _<_, _≤_}
 use native.Mathlib.Omega.{arith}
 use borrow.Author.Needs.{needs}
 use borrow.Author.Tests.{eq-eqb, ne-eqb}
+use lib.Dec.{eqb}
 use lib.ListN.{length, getD, drop, drop-of-length-le, length-map, List·getD-map}
 use Rattle.rules.specs.Lists.{pick, lower, sameBytes, beginsWith}
 use Rattle.wire.proofs.Steps.{left-at}
@@ -13,6 +14,10 @@ use Rattle.wire.proofs.Steps.{left-at}
 and-false : (b : Bool) → (b && false) ≡ false
 and-false true = refl
 and-false false = refl
+
+and-right : (a b : Bool) → (a && b) ≡ true → b ≡ true
+and-right true b e = e
+and-right false b e = absurd (let z : _≡_ {A = ℕ} 0 1 = cc in omega arith)
 
 pub other-length : (a b : List ℕ) → (length a ≡ length b → ⊥) → false ≡ sameBytes a b
 unfolding sameBytes
@@ -41,6 +46,12 @@ unfolding beginsWith
 too-short [] b h = absurd (omega arith)
 too-short (x ∷ a) [] h = refl
 too-short (x ∷ a) (y ∷ b) h = rw (← (too-short a b (omega arith)), and-false)
+
+pub longer : (a b : List ℕ) → beginsWith a b ≡ true → length a ≤ length b
+unfolding beginsWith
+longer [] b e = omega arith
+longer (x ∷ a) [] e = absurd (let z : _≡_ {A = ℕ} 0 1 = cc in omega arith)
+longer (x ∷ a) (y ∷ b) e = let h = longer a b (and-right (eqb x y) (beginsWith a b) e) in omega arith
 
 module _ (a b : List ℕ) (i : ℕ) (e : beginsWith (drop i a) (drop i b) ≡ beginsWith a b) where
   pub begins-next : i < length a → length a ≤ length b → getD a i 0 ≡ getD b i 0 → beginsWith (drop (i + 1) a) (drop (i + 1) b) ≡ beginsWith a b

@@ -16,6 +16,16 @@ pub fn put_byte(out: &mut [u8], b: u8) -> usize
     1
 }
 
+pub fn put_two(out: &mut [u8], first: u8, second: u8) -> usize
+    requires { ⌜ 2 ≤ length (now out) ⌝ }
+    ensures { λ r. ⌜ IsPut (first ∷ second ∷ []) (now (out .entry)) (now (out .exit)) r ⌝ }
+    ensures { λ r. ⌜ r ≡ 2 ⌝ }
+{
+    out[0] = first;
+    out[1] = second;
+    2
+}
+
 pub fn put_bytes(out: &mut [u8], source: &[u8]) -> usize
     requires { ⌜ length (now source) ≤ length (now out) ⌝ }
     ensures { λ r. ⌜ IsPut (now (source .entry)) (now (out .entry)) (now (out .exit)) r ⌝ }
