@@ -29,9 +29,9 @@ module _ (s : List ℕ) (value i : ℕ) (e : Digits s value i) (h : i < length s
   pub turn : (d : ℕ) → 48 ≤ getD s i 0 → getD s i 0 ≤ 57 → d ≡ getD s i 0 - 48 → Digits s (value * 10 + d) (i + 1)
   unfolding all digit decimalFrom
   turn d l g k = record {
-      good = e .good ∙ rw (left-at s i h, le-leb 48 _ l, le-leb _ 57 g);
-      worth = e .worth ∙ rw (left-at s i h, k);
-    }
+    good = e .good ∙ rw (left-at s i h, le-leb 48 _ l, le-leb _ 57 g);
+    worth = e .worth ∙ rw (left-at s i h, k);
+  }
 
   not-low : getD s i 0 < 48 → all digit s ≡ false
   unfolding all digit

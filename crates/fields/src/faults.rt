@@ -3,9 +3,6 @@ ghost use mathlib.Core.Path.{_≡_};
 ghost use Rattle.rules.specs.Names.{nameOf};
 ghost use Rattle.rules.specs.Fields.{numberOf, largestShort, addressOf, prefixOf, timeOf, loOf, textOf, unless, nameFault, needed, optional, reserved, typeFault, faultOf};
 ghost use Rattle.rules.specs.declared.faults.FieldKind.{FieldKind};
-use rules::faults::Fault;
-use rules::faults::FieldKind;
-use rules::kinds::Meaning;
 use crate::addresses::address;
 use crate::addresses::prefix;
 use crate::codes::LoRead;
@@ -18,6 +15,9 @@ use crate::texts::TextJudged;
 use crate::texts::judge_text;
 use crate::times::TimeRead;
 use crate::times::time;
+use rules::faults::Fault;
+use rules::faults::FieldKind;
+use rules::kinds::Meaning;
 
 fn name_fault(text: &[u8]) -> Fault
     ensures { λ r. ⌜ r ≡ nameFault (nameOf (now (text .entry))) ⌝ }

@@ -2,8 +2,8 @@
 ghost use mathlib.Core.Path.{_≡_};
 ghost use Rattle.rules.specs.Fields.{timeOf};
 ghost use Rattle.fields.specs.Views.{timeRead};
-use rules::quantities::Moment;
 use crate::hex::hex_digit;
+use rules::quantities::Moment;
 
 pub enum TimeRead {
     Good(Moment),
