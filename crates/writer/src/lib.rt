@@ -1,0 +1,3 @@
+// A good line's records written into the front of a lent buffer.
+pub mod names;
+pub mod values;

@@ -1,0 +1,1 @@
+// The values of a line's fields.
