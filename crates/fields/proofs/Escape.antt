@@ -14,7 +14,7 @@ use Rattle.rules.specs.Lists.{pick, valueOr, isSome}
 use Rattle.rules.specs.Fields.{octal, ontoText, textOf}
 use Rattle.wire.proofs.Steps.{left-at}
 use Rattle.fields.specs.Views.{escapeRead}
-use Rattle.fields.specs.Counts.{escapeOf, escapeIn, escapesAt, stepAt, byteAt, IsStep}
+use Rattle.fields.specs.TextSteps.{escapeOf, escapeIn, escapesAt, stepAt, byteAt, IsStep}
 use Rattle.fields.specs.declared.texts.EscapeRead.{EscapeRead}
 
 -- a byte in front of a text, where there is one

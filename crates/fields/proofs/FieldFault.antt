@@ -16,12 +16,13 @@ use Rattle.rules.specs.declared.faults.Fault.{Fault}
 use Rattle.rules.specs.declared.faults.FieldKind.{FieldKind}
 use Rattle.rules.specs.declared.faults.NameFault.{NameFault}
 use Rattle.rules.specs.declared.kinds.Meaning.{Meaning}
-use Rattle.fields.specs.Views.{numberRead, judgedOf, textJudged}
-use Rattle.fields.specs.Addresses.{addressRead, IsAddress, prefixRead, IsPrefix}
-use Rattle.fields.specs.declared.addresses.AddressRead.{AddressRead}
-use Rattle.fields.specs.declared.addresses.PrefixRead.{PrefixRead}
+use Rattle.addresses.specs.Views.{numberRead}
+use Rattle.fields.specs.Views.{judgedOf, textJudged}
+use Rattle.addresses.specs.Addresses.{addressRead, IsAddress, prefixRead, IsPrefix}
+use Rattle.addresses.specs.declared.addresses.AddressRead.{AddressRead}
+use Rattle.addresses.specs.declared.addresses.PrefixRead.{PrefixRead}
 use Rattle.fields.specs.declared.names.NameJudged.{NameJudged}
-use Rattle.fields.specs.declared.numbers.NumberRead.{NumberRead}
+use Rattle.addresses.specs.declared.numbers.NumberRead.{NumberRead}
 use Rattle.fields.specs.declared.texts.TextJudged.{TextJudged}
 
 -- a reader's answer r is the case c: the fault is that case's

@@ -15,7 +15,7 @@ use Rattle.rules.specs.Names.{NameRead, named, misnamed, nameByte, label, longe
 use Rattle.rules.specs.declared.faults.NameFault.{NameFault}
 use Rattle.wire.proofs.Steps.{left-at}
 use Rattle.fields.specs.Views.{judgedOf}
-use Rattle.fields.specs.Counts.{byteKind, byKind, labelRoom, judgedSize, judgedFrom}
+use Rattle.fields.specs.NameCounts.{byteKind, byKind, labelRoom, judgedSize, judgedFrom}
 use Rattle.fields.specs.declared.names.ByteKind.{ByteKind}
 use Rattle.fields.specs.declared.names.NameJudged.{NameJudged}
 

@@ -9,7 +9,7 @@ use borrow.Author.Needs.{needs}
 use lib.ListN.{length, drop, drop-of-length-le}
 use Rattle.rules.specs.Fields.{ontoText, textOf}
 use Rattle.fields.specs.Views.{textJudged}
-use Rattle.fields.specs.Counts.{stepAt, byteAt, IsStep, textCount}
+use Rattle.fields.specs.TextSteps.{stepAt, byteAt, IsStep, textCount}
 use Rattle.fields.specs.declared.texts.TextJudged.{TextJudged}
 use Rattle.fields.proofs.Escape.{item, fault}
 

@@ -12,7 +12,7 @@ use Rattle.rules.specs.Lists.{valueOr, isSome}
 use Rattle.rules.specs.Fields.{ontoText, textOf}
 use Rattle.wire.specs.Put.{IsPut}
 use Rattle.wire.proofs.Steps.{take-put}
-use Rattle.fields.specs.Counts.{stepAt, byteAt, IsStep}
+use Rattle.fields.specs.TextSteps.{stepAt, byteAt, IsStep}
 use Rattle.fields.proofs.Front.{put-by, stays}
 use Rattle.fields.proofs.Escape.{item, fault}
 

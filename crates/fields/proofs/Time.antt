@@ -13,8 +13,8 @@ use mir.Val.{Fits}
 use mir.Syntax.{w64}
 use Rattle.rules.specs.Lists.{pick, all}
 use Rattle.rules.specs.Fields.{lowerHexDigit, hexFrom, timeOf}
-use Rattle.fields.specs.Counts.{hexOr}
-use Rattle.fields.proofs.HexDigit.{Hex, begin, taken, refused, all-good, all-worth, is-digit, no-digit, more-digits, times-fits, more-fits}
+use Rattle.addresses.specs.Views.{hexOr}
+use Rattle.addresses.proofs.HexDigit.{Hex, begin, taken, refused, all-good, all-worth, is-digit, no-digit, more-digits, times-fits, more-fits}
 
 pub other-length : (s : List ℕ) → (length s ≡ 16 → ⊥) → none ≡ timeOf s
 unfolding timeOf pick
