@@ -1,20 +1,19 @@
 -- The laws of an address and a prefix, from what their numbers and groups tell.
 use mathlib.Core.Path.{_≡_, refl, ap, _∙_, sym}
 use mathlib.Core.Bool.{Bool, true, false, _&&_, and-true, and-false}
-use mathlib.Core.List.{List, [], _∷_, _++_, map}
+use mathlib.Core.List.{List, [], _∷_, map}
 use mathlib.Core.Option.{Option, none, some}
-use Prim.Native.Nat.{ℕ, suc, _+_, _*_, _<_, _≤_}
+use Prim.Native.Nat.{ℕ, _*_, _≤_}
 use native.Mathlib.Omega.{arith}
 use borrow.Author.Needs.{needs}
-use borrow.Author.Tests.{eq-eqb, ne-eqb, leb-false}
+use borrow.Author.Tests.{ne-eqb, leb-false}
 use lib.Dec.{leb, eqb}
-use lib.ListN.{length, getD, take, set, length-set, length-append}
+use lib.ListN.{length, getD, take, set, length-set}
 use lib.Seq.{take-all}
 use Rattle.rules.specs.Lists.{pick, has, all, joinAll, splitOn, be}
-use Rattle.rules.specs.Fields.{octet, octetByte, group, groupBytes, addressIf, addressOf, prefixOf}
+use Rattle.rules.specs.Fields.{octet, octetByte, addressIf, addressOf, prefixOf}
 use Rattle.addresses.specs.Addresses.{octetsRead, IsOctets, groupsBytes, groupsRead, IsGroups, dottedAddress, groupedAddress, addressRead, IsAddress, prefixRead, IsPrefix}
 use Rattle.addresses.specs.declared.addresses.AddressRead.{AddressRead}
-use Rattle.addresses.specs.declared.addresses.PrefixRead.{PrefixRead}
 use Rattle.addresses.specs.declared.groups.GroupsRead.{GroupsRead}
 use Rattle.addresses.specs.declared.octets.OctetsRead.{OctetsRead}
 

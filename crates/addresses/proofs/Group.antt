@@ -1,9 +1,9 @@
 -- The laws of one group of an IPv6 address: 1 to 4 hexadecimal digits, either case.
 use mathlib.Core.Path.{_≡_, refl, ap, _∙_, sym}
 use mathlib.Core.Bool.{Bool, true, false, _&&_}
-use mathlib.Core.List.{List, [], _∷_}
-use mathlib.Core.Option.{Option, none, some}
-use Prim.Native.Nat.{ℕ, suc, _+_, _*_, _-_, _^_, _<_, _≤_}
+use mathlib.Core.List.{List}
+use mathlib.Core.Option.{none, some}
+use Prim.Native.Nat.{ℕ, _+_, _*_, _-_, _^_, _<_, _≤_}
 use native.Mathlib.Nat.{pow-le-pow-right}
 use native.Mathlib.Omega.{arith}
 use borrow.Author.Needs.{needs}
@@ -12,8 +12,8 @@ use lib.Dec.{leb, lit<}
 use lib.ListN.{length, getD}
 use mir.Val.{Fits}
 use mir.Syntax.{w16, w64}
-use Rattle.rules.specs.Lists.{pick, all, lower}
-use Rattle.rules.specs.Fields.{digit, lowerHexDigit, hexValue, hexFrom, group}
+use Rattle.rules.specs.Lists.{pick, lower}
+use Rattle.rules.specs.Fields.{digit, lowerHexDigit, hexValue, group}
 use Rattle.addresses.specs.Views.{hexOr}
 use Rattle.addresses.specs.Pieces.{groupOf}
 use Rattle.addresses.proofs.HexDigit.{Hex, begin, taken, refused, all-good, all-worth, is-digit, no-digit, more-digits, times-fits, more-fits}
@@ -57,16 +57,16 @@ module _ (s : List ℕ) (value i : ℕ) (e : Hex anyCase s value i) where
     pub turn : d < 16 → Hex anyCase s (value * 16 + d) (i + 1)
     turn k =
         let w = is-digit c d q k in
-        taken anyCase s value i e d h (ap lowerHexDigit (sym p) ∙ w .0) (same-value (getD s i 0) ∙ ap hexValue (sym p) ∙ w .1)
+        taken e d h (ap lowerHexDigit (sym p) ∙ w .0) (same-value (getD s i 0) ∙ ap hexValue (sym p) ∙ w .1)
 
     pub bad-digit : (length s ≡ 0 → ⊥) → length s ≤ 4 → 16 ≤ d → none ≡ groupOf s
     unfolding groupOf group pick
     bad-digit y z k =
-        rw (le-leb 1 (length s) (omega arith), le-leb (length s) 4 z, refused anyCase s value i e h (ap lowerHexDigit (sym p) ∙ no-digit c d q k))
+        rw (le-leb 1 (length s) (omega arith), le-leb (length s) 4 z, refused e h (ap lowerHexDigit (sym p) ∙ no-digit c d q k))
 
   pub good : (length s ≡ 0 → ⊥) → length s ≤ 4 → length s ≤ i → some value ≡ groupOf s
   unfolding groupOf group pick
-  good y z h = rw (le-leb 1 (length s) (omega arith), le-leb (length s) 4 z, all-good anyCase s value i e h, all-worth anyCase s value i e h)
+  good y z h = rw (le-leb 1 (length s) (omega arith), le-leb (length s) 4 z, all-good e h, all-worth e h)
 
 -- a loop over four digits
 pub four-times : (i v n : ℕ) → v < 16 ^ i → i < n → n ≤ 4 → Fits w64 (v * 16)

@@ -1,9 +1,9 @@
 -- The laws of groups joined by underscores, and of their bytes.
 use mathlib.Core.Path.{_≡_, refl, ap, _∙_, sym}
-use mathlib.Core.Bool.{Bool, true, false, _&&_, and-true}
+use mathlib.Core.Bool.{Bool, true, false, and-true}
 use mathlib.Core.List.{List, [], _∷_, _++_, map, append-assoc, append-nil}
-use mathlib.Core.Option.{Option, none, some}
-use Prim.Native.Nat.{ℕ, zero, suc, _+_, _-_, _*_, _/_, _%_, _<_, _≤_}
+use mathlib.Core.Option.{none, some}
+use Prim.Native.Nat.{ℕ, suc, _+_, _-_, _*_, _/_, _%_, _<_, _≤_}
 use native.Mathlib.Numerals.{add-one}
 use native.Mathlib.Omega.{arith}
 use borrow.Author.Needs.{needs}
@@ -11,14 +11,13 @@ use borrow.Author.Tests.{ne-eqb, eqb-true}
 use lib.Dec.{eqb}
 use lib.ListN.{length, getD, take, drop, set, length-set}
 use lib.Seq.{take-all, take-suc, take-suc-set}
-use Rattle.rules.specs.Lists.{pick, all, joinAll, splitOn, be}
+use Rattle.rules.specs.Lists.{pick, joinAll, splitOn, be}
 use Rattle.rules.specs.Fields.{hexFrom, group, groupBytes, addressIf}
 use Rattle.wire.proofs.Steps.{take-put}
 use Rattle.addresses.specs.Views.{groupRead}
 use Rattle.addresses.specs.Pieces.{IsEnd, piecesFrom, groupOf}
 use Rattle.addresses.specs.Addresses.{groupsBytes, groupsRead, IsGroups}
 use Rattle.addresses.specs.declared.groups.GroupRead.{GroupRead}
-use Rattle.addresses.specs.declared.groups.GroupsRead.{GroupsRead}
 use Rattle.addresses.proofs.Piece.{piece-at, no-piece, all-pieces}
 use Rattle.addresses.proofs.Taken.{Taken, none-taken, taken, bad-piece, one-more, all-good, all-bytes, all-many, good-by, bad-by}
 
@@ -46,7 +45,7 @@ module _ (s groups : List ℕ) (count start : ℕ) (e : Going s groups count sta
     pub too-many : 7 < count → IsGroups s (record { groups = groups; good = false })
     unfolding addressIf pick
     too-many h =
-        let m = one-more group groupBytes (splitOn 95 s) (piecesFrom 95 s start) (groupsBytes (take count groups)) count e (take (end - start) (drop start s)) (piecesFrom 95 s (end + 1)) (piece-at 95 s start end p) in
+        let m = one-more e (piece-at p) in
         refused s groups l (rw (ne-eqb (length (splitOn 95 s)) 8 (λ z. omega arith)))
 
     module _ (x : GroupRead) (q : groupRead x ≡ groupOf (take (end - start) (drop start s))) where
@@ -54,7 +53,7 @@ module _ (s groups : List ℕ) (count start : ℕ) (e : Going s groups count sta
       unfolding groupOf
       bad w =
           refused s groups l
-          (bad-piece group groupBytes (splitOn 95 s) (piecesFrom 95 s start) (groupsBytes (take count groups)) count e (take (end - start) (drop start s)) (piecesFrom 95 s (end + 1)) (piece-at 95 s start end p)
+          (bad-piece e (piece-at p)
           (eqb (length (splitOn 95 s)) 8) (bad-by (group (take (end - start) (drop start s))) _ (sym q ∙ rw w)))
 
       pub more : (v : ℕ) → x ≡ GroupRead.Good v → count ≤ 7 → Going s (set groups count v) (count + 1) (end + 1)
@@ -62,7 +61,7 @@ module _ (s groups : List ℕ) (count start : ℕ) (e : Going s groups count sta
       more v w h =
           let g = good-by (group (take (end - start) (drop start s))) (hexFrom 0 (take (end - start) (drop start s))) v (sym q ∙ rw w) in
           rw (take-put groups count v (omega arith), snoc (take count groups) v, ← g .1)
-          (taken group groupBytes (splitOn 95 s) (piecesFrom 95 s start) (groupsBytes (take count groups)) count e (take (end - start) (drop start s)) (piecesFrom 95 s (end + 1)) (piece-at 95 s start end p) (g .0))
+          (taken e (piece-at p) (g .0))
 
   counted-by : (t : Bool) → eqb count 8 ≡ t → pick t (some (groupsBytes groups)) none ≡ pick t (some (groupsBytes (take count groups))) none
   unfolding pick
@@ -76,9 +75,9 @@ module _ (s groups : List ℕ) (count start : ℕ) (e : Going s groups count sta
       record {
         says =
             rw (
-              all-good group groupBytes (splitOn 95 s) (piecesFrom 95 s start) (groupsBytes (take count groups)) count e z,
-              all-bytes group groupBytes (splitOn 95 s) (piecesFrom 95 s start) (groupsBytes (take count groups)) count e z,
-              all-many group groupBytes (splitOn 95 s) (piecesFrom 95 s start) (groupsBytes (take count groups)) count e z,
+              all-good e z,
+              all-bytes e z,
+              all-many e z,
               and-true (eqb count 8),
             )
             (counted-by (eqb count 8) refl);

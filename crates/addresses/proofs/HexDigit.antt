@@ -1,7 +1,7 @@
 -- The laws of hexadecimal digits: a byte's value, and a turn of a loop that takes one digit.
-use mathlib.Core.Path.{_≡_, refl, ap, _∙_, sym}
+use mathlib.Core.Path.{_≡_, refl, _∙_, sym}
 use mathlib.Core.Bool.{Bool, true, false, _&&_, _||_}
-use mathlib.Core.List.{List, [], _∷_}
+use mathlib.Core.List.{List}
 use Prim.Native.Nat.{ℕ, _+_, _*_, _-_, _^_, _<_, _≤_}
 use native.Mathlib.Nat.{pow-suc, pow-le-pow-right}
 use native.Mathlib.Numerals.{add-one}
@@ -90,7 +90,7 @@ pub record Hex (f : ℕ → Bool) (s : List ℕ) (value i : ℕ) : Type 0 where
 pub begin : (f : ℕ → Bool) (s : List ℕ) → Hex f s 0 0
 begin f s = record { good = refl; worth = refl }
 
-module _ (f : ℕ → Bool) (s : List ℕ) (value i : ℕ) (e : Hex f s value i) where
+module _ {f : ℕ → Bool} {s : List ℕ} {value i : ℕ} (e : Hex f s value i) where
   pub taken : (d : ℕ) → i < length s → f (getD s i 0) ≡ true → hexValue (getD s i 0) ≡ d → Hex f s (value * 16 + d) (i + 1)
   unfolding all hexFrom
   taken d h p q = record { good = e .good ∙ rw (left-at s i h, p); worth = e .worth ∙ rw (left-at s i h, ← q) }

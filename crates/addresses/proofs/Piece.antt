@@ -1,5 +1,5 @@
 -- The laws of a byte looked for, and of the pieces between such bytes.
-use mathlib.Core.Path.{_≡_, refl, ap, _∙_, sym}
+use mathlib.Core.Path.{_≡_, refl, _∙_, sym}
 use mathlib.Core.Bool.{Bool, true, false}
 use mathlib.Core.List.{List, [], _∷_}
 use Prim.Native.Nat.{ℕ, zero, suc, _+_, _-_, _<_, _≤_}
@@ -64,9 +64,9 @@ piece-by b s zero h = refl
 piece-by b s (suc e) h = rw (drop-cons s e 0 h)
 
 -- the pieces from a place on are the piece there, and those from behind its end on
-pub piece-at : (b : ℕ) (s : List ℕ) (start e : ℕ) → IsEnd b s start e → piecesFrom b s start ≡ take (e - start) (drop start s) ∷ piecesFrom b s (e + 1)
+pub piece-at : {b : ℕ} {s : List ℕ} {start e : ℕ} → IsEnd b s start e → piecesFrom b s start ≡ take (e - start) (drop start s) ∷ piecesFrom b s (e + 1)
 unfolding piecesFrom
-piece-at b s start e p =
+piece-at {b} {s} {start} {e} p =
     let q : e - start ≡ firstAt b (drop start s) = omega (arith, p .says) in
     rw (add-one e, q, p .says, ← drop-drop (firstAt b (drop start s)) start s)
     (piece-by b s start (omega (arith, p .above, p .within)) ∙ first-piece b (drop start s))

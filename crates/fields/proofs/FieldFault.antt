@@ -1,5 +1,5 @@
 -- The laws of a field's fault, from what its reader answers.
-use mathlib.Core.Path.{_≡_, refl, ap, _∙_, sym}
+use mathlib.Core.Path.{_≡_, refl, sym}
 use mathlib.Core.Bool.{Bool, true, false}
 use mathlib.Core.List.{List, [], _∷_}
 use mathlib.Core.Option.{Option, none, some}
@@ -7,8 +7,7 @@ use Prim.Native.Nat.{ℕ}
 use native.Mathlib.Omega.{arith}
 use borrow.Author.Needs.{needs}
 use borrow.Author.Tests.{eq-eqb, ne-eqb}
-use lib.Dec.{eqb}
-use lib.ListN.{length, take}
+use lib.ListN.{length}
 use Rattle.rules.specs.Lists.{pick, has}
 use Rattle.rules.specs.Names.{NameRead, named, misnamed}
 use Rattle.rules.specs.Fields.{unless, nameFault, needed, optional, reserved, typeFault, faultOf}

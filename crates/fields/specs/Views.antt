@@ -6,7 +6,6 @@ use mathlib.Core.Option.{Option, none, some}
 use lib.ListN.{length}
 use Rattle.rules.specs.Names.{NameRead, named, misnamed}
 use Rattle.rules.specs.declared.quantities.Lo.{Lo}
-use Rattle.rules.specs.declared.quantities.Moment.{Moment}
 use Rattle.fields.specs.declared.codes.LoRead.{LoRead}
 use Rattle.fields.specs.declared.texts.EscapeRead.{EscapeRead}
 use Rattle.fields.specs.declared.texts.TextJudged.{TextJudged}

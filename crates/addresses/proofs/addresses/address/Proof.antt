@@ -1,5 +1,4 @@
 use Rattle.addresses.proofs.Address.{address·laws}
-use borrow.Author.Needs.{needs}
 use Rattle.addresses.proofs.addresses.address.Statement.{statement}
 use Rattle.addresses.proofs.addresses.address.Tie as tie
 

@@ -1,5 +1,4 @@
 use Rattle.addresses.proofs.Address.{dotted·laws}
-use borrow.Author.Needs.{needs}
 use Rattle.addresses.proofs.addresses.dotted_address.Statement.{statement}
 use Rattle.addresses.proofs.addresses.dotted_address.Tie as tie
 

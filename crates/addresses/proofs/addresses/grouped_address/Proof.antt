@@ -1,5 +1,4 @@
 use Rattle.addresses.proofs.Address.{grouped·laws}
-use borrow.Author.Needs.{needs}
 use Rattle.addresses.proofs.addresses.grouped_address.Statement.{statement}
 use Rattle.addresses.proofs.addresses.grouped_address.Tie as tie
 

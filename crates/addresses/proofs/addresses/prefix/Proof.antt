@@ -1,5 +1,4 @@
 use Rattle.addresses.proofs.Address.{prefix·laws}
-use borrow.Author.Needs.{needs}
 use Rattle.addresses.proofs.addresses.prefix.Statement.{statement}
 use Rattle.addresses.proofs.addresses.prefix.Tie as tie
 

@@ -3,7 +3,6 @@ use Prim.Native.Nat.{_*_, _-_, _≤_}
 use lib.ListN.{length, take}
 use Rattle.addresses.specs.Addresses.{groupsBytes}
 use Rattle.addresses.proofs.Grouped.{bytes·laws}
-use borrow.Author.Needs.{needs}
 use Rattle.addresses.proofs.groups.address_bytes.Statement.{statement}
 use Rattle.addresses.proofs.groups.address_bytes.Tie as tie
 

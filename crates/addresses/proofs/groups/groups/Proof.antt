@@ -2,7 +2,6 @@ use mathlib.Core.Path.{_≡_}
 use Prim.Native.Nat.{_+_, _-_, _≤_}
 use lib.ListN.{length}
 use Rattle.addresses.proofs.Grouped.{Going, groups·laws}
-use borrow.Author.Needs.{needs}
 use Rattle.addresses.proofs.groups.groups.Statement.{statement}
 use Rattle.addresses.proofs.groups.groups.Tie as tie
 

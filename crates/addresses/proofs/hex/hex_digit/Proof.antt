@@ -1,5 +1,4 @@
 use Rattle.addresses.proofs.HexDigit.{hex·laws}
-use borrow.Author.Needs.{needs}
 use Rattle.addresses.proofs.hex.hex_digit.Statement.{statement}
 use Rattle.addresses.proofs.hex.hex_digit.Tie as tie
 

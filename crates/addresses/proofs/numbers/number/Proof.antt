@@ -1,7 +1,6 @@
 use Prim.Native.Nat.{_-_, _^_, _<_, _≤_}
 use lib.ListN.{length}
 use Rattle.addresses.proofs.Number.{Digits, number·laws}
-use borrow.Author.Needs.{needs}
 use Rattle.addresses.proofs.numbers.number.Statement.{statement}
 use Rattle.addresses.proofs.numbers.number.Tie as tie
 

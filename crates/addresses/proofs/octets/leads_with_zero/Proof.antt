@@ -1,5 +1,4 @@
 use Rattle.addresses.proofs.Octet.{zero·laws}
-use borrow.Author.Needs.{needs}
 use Rattle.addresses.proofs.octets.leads_with_zero.Statement.{statement}
 use Rattle.addresses.proofs.octets.leads_with_zero.Tie as tie
 

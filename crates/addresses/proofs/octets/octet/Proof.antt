@@ -1,5 +1,4 @@
 use Rattle.addresses.proofs.Octet.{octet·laws}
-use borrow.Author.Needs.{needs}
 use Rattle.addresses.proofs.octets.octet.Statement.{statement}
 use Rattle.addresses.proofs.octets.octet.Tie as tie
 

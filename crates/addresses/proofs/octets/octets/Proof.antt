@@ -2,7 +2,6 @@ use mathlib.Core.Path.{_≡_}
 use Prim.Native.Nat.{_+_, _-_, _≤_}
 use lib.ListN.{length}
 use Rattle.addresses.proofs.Dotted.{Going, octets·laws}
-use borrow.Author.Needs.{needs}
 use Rattle.addresses.proofs.octets.octets.Statement.{statement}
 use Rattle.addresses.proofs.octets.octets.Tie as tie
 

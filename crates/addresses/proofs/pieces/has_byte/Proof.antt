@@ -3,7 +3,6 @@ use Prim.Native.Nat.{_-_, _≤_}
 use lib.ListN.{length, drop}
 use Rattle.rules.specs.Lists.{has}
 use Rattle.addresses.proofs.Piece.{has·laws}
-use borrow.Author.Needs.{needs}
 use Rattle.addresses.proofs.pieces.has_byte.Statement.{statement}
 use Rattle.addresses.proofs.pieces.has_byte.Tie as tie
 

@@ -3,7 +3,6 @@ use Prim.Native.Nat.{_+_, _-_, _≤_}
 use lib.ListN.{length, drop}
 use Rattle.addresses.specs.Pieces.{firstAt}
 use Rattle.addresses.proofs.Piece.{end·laws}
-use borrow.Author.Needs.{needs}
 use Rattle.addresses.proofs.pieces.piece_end.Statement.{statement}
 use Rattle.addresses.proofs.pieces.piece_end.Tie as tie
 
