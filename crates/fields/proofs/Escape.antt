@@ -1,9 +1,9 @@
 -- The laws of a text: a byte that stands for itself, and a backslash with three octal digits.
-use mathlib.Core.Path.{_≡_, refl, ap, _∙_, sym}
+use mathlib.Core.Path.{_≡_, refl, _∙_, sym}
 use mathlib.Core.Bool.{Bool, true, false, _&&_}
 use mathlib.Core.List.{List, [], _∷_}
 use mathlib.Core.Option.{Option, none, some}
-use Prim.Native.Nat.{ℕ, suc, _+_, _-_, _*_, _<_, _≤_}
+use Prim.Native.Nat.{ℕ, _+_, _-_, _*_, _<_, _≤_}
 use native.Mathlib.Omega.{arith}
 use borrow.Author.Needs.{needs}
 use borrow.Author.Tests.{eq-eqb, ne-eqb, eqb-true, eqb-false}
@@ -14,7 +14,7 @@ use Rattle.rules.specs.Lists.{pick, valueOr, isSome}
 use Rattle.rules.specs.Fields.{octal, ontoText, textOf}
 use Rattle.wire.proofs.Steps.{left-at}
 use Rattle.fields.specs.Views.{escapeRead}
-use Rattle.fields.specs.Counts.{escapeOf, escapeIn, escapesAt, stepAt, byteAt, IsStep}
+use Rattle.fields.specs.TextSteps.{escapeOf, escapeIn, escapesAt, stepAt, byteAt, IsStep}
 use Rattle.fields.specs.declared.texts.EscapeRead.{EscapeRead}
 
 -- a byte in front of a text, where there is one

@@ -1,5 +1,5 @@
 -- The laws of a field's fault, from what its reader answers.
-use mathlib.Core.Path.{_≡_, refl, ap, _∙_, sym}
+use mathlib.Core.Path.{_≡_, refl, sym}
 use mathlib.Core.Bool.{Bool, true, false}
 use mathlib.Core.List.{List, [], _∷_}
 use mathlib.Core.Option.{Option, none, some}
@@ -7,8 +7,7 @@ use Prim.Native.Nat.{ℕ}
 use native.Mathlib.Omega.{arith}
 use borrow.Author.Needs.{needs}
 use borrow.Author.Tests.{eq-eqb, ne-eqb}
-use lib.Dec.{eqb}
-use lib.ListN.{length, take}
+use lib.ListN.{length}
 use Rattle.rules.specs.Lists.{pick, has}
 use Rattle.rules.specs.Names.{NameRead, named, misnamed}
 use Rattle.rules.specs.Fields.{unless, nameFault, needed, optional, reserved, typeFault, faultOf}
@@ -16,12 +15,13 @@ use Rattle.rules.specs.declared.faults.Fault.{Fault}
 use Rattle.rules.specs.declared.faults.FieldKind.{FieldKind}
 use Rattle.rules.specs.declared.faults.NameFault.{NameFault}
 use Rattle.rules.specs.declared.kinds.Meaning.{Meaning}
-use Rattle.fields.specs.Views.{numberRead, judgedOf, textJudged}
-use Rattle.fields.specs.Addresses.{addressRead, IsAddress, prefixRead, IsPrefix}
-use Rattle.fields.specs.declared.addresses.AddressRead.{AddressRead}
-use Rattle.fields.specs.declared.addresses.PrefixRead.{PrefixRead}
+use Rattle.addresses.specs.Views.{numberRead}
+use Rattle.fields.specs.Views.{judgedOf, textJudged}
+use Rattle.addresses.specs.Addresses.{addressRead, IsAddress, prefixRead, IsPrefix}
+use Rattle.addresses.specs.declared.addresses.AddressRead.{AddressRead}
+use Rattle.addresses.specs.declared.addresses.PrefixRead.{PrefixRead}
 use Rattle.fields.specs.declared.names.NameJudged.{NameJudged}
-use Rattle.fields.specs.declared.numbers.NumberRead.{NumberRead}
+use Rattle.addresses.specs.declared.numbers.NumberRead.{NumberRead}
 use Rattle.fields.specs.declared.texts.TextJudged.{TextJudged}
 
 -- a reader's answer r is the case c: the fault is that case's

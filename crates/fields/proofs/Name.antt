@@ -2,7 +2,7 @@
 use mathlib.Core.Path.{_≡_, refl, ap, _∙_, sym}
 use mathlib.Core.Bool.{Bool, true, false, and-true, and-false}
 use mathlib.Core.List.{List, [], _∷_, _++_}
-use Prim.Native.Nat.{ℕ, zero, suc, _+_, _<_, _≤_}
+use Prim.Native.Nat.{ℕ, suc, _+_, _<_, _≤_}
 use native.Mathlib.Nat.{add-zero}
 use native.Mathlib.Numerals.{add-one}
 use native.Mathlib.Omega.{arith}
@@ -15,7 +15,7 @@ use Rattle.rules.specs.Names.{NameRead, named, misnamed, nameByte, label, longe
 use Rattle.rules.specs.declared.faults.NameFault.{NameFault}
 use Rattle.wire.proofs.Steps.{left-at}
 use Rattle.fields.specs.Views.{judgedOf}
-use Rattle.fields.specs.Counts.{byteKind, byKind, labelRoom, judgedSize, judgedFrom}
+use Rattle.fields.specs.NameCounts.{byteKind, byKind, labelRoom, judgedSize, judgedFrom}
 use Rattle.fields.specs.declared.names.ByteKind.{ByteKind}
 use Rattle.fields.specs.declared.names.NameJudged.{NameJudged}
 

@@ -1,6 +1,6 @@
 -- The laws of a text judged: how a turn of the loop counts one byte, and how each way out ends it.
 use mathlib.Core.Path.{_≡_, refl, ap, _∙_, sym}
-use mathlib.Core.List.{List, [], _∷_}
+use mathlib.Core.List.{List}
 use mathlib.Core.Option.{Option, none, some}
 use Prim.Native.Nat.{ℕ, _+_, _<_, _≤_}
 use native.Mathlib.Nat.{add-zero, zero-add}
@@ -9,7 +9,7 @@ use borrow.Author.Needs.{needs}
 use lib.ListN.{length, drop, drop-of-length-le}
 use Rattle.rules.specs.Fields.{ontoText, textOf}
 use Rattle.fields.specs.Views.{textJudged}
-use Rattle.fields.specs.Counts.{stepAt, byteAt, IsStep, textCount}
+use Rattle.fields.specs.TextSteps.{byteAt, IsStep, textCount}
 use Rattle.fields.specs.declared.texts.TextJudged.{TextJudged}
 use Rattle.fields.proofs.Escape.{item, fault}
 

@@ -1,18 +1,18 @@
 -- The laws of a text put into a buffer: how a turn of the loop puts one byte, and that the text's bytes stand there at its end.
 use mathlib.Core.Path.{_≡_, refl, ap, _∙_, sym}
-use mathlib.Core.Bool.{Bool, true, false}
+use mathlib.Core.Bool.{true}
 use mathlib.Core.List.{List, [], _∷_, _++_, append-nil}
 use mathlib.Core.Option.{Option, none, some}
-use Prim.Native.Nat.{ℕ, suc, _+_, _-_, _<_, _≤_}
+use Prim.Native.Nat.{ℕ, _+_, _-_, _<_, _≤_}
 use native.Mathlib.Omega.{arith}
 use borrow.Author.Needs.{needs}
-use lib.ListN.{length, take, drop, set, length-append, length-set, drop-of-length-le}
+use lib.ListN.{length, take, drop, set, length-append, drop-of-length-le}
 use lib.Seq.{append-snoc, length-take-le}
 use Rattle.rules.specs.Lists.{valueOr, isSome}
 use Rattle.rules.specs.Fields.{ontoText, textOf}
 use Rattle.wire.specs.Put.{IsPut}
 use Rattle.wire.proofs.Steps.{take-put}
-use Rattle.fields.specs.Counts.{stepAt, byteAt, IsStep}
+use Rattle.fields.specs.TextSteps.{stepAt, byteAt, IsStep}
 use Rattle.fields.proofs.Front.{put-by, stays}
 use Rattle.fields.proofs.Escape.{item, fault}
 

@@ -1,4 +1,3 @@
 pub mod Views
-pub mod Counts
-pub mod Pieces
-pub mod Addresses
+pub mod NameCounts
+pub mod TextSteps

@@ -6,19 +6,11 @@ use mathlib.Core.Option.{Option, none, some}
 use lib.ListN.{length}
 use Rattle.rules.specs.Names.{NameRead, named, misnamed}
 use Rattle.rules.specs.declared.quantities.Lo.{Lo}
-use Rattle.rules.specs.declared.quantities.Moment.{Moment}
 use Rattle.fields.specs.declared.codes.LoRead.{LoRead}
 use Rattle.fields.specs.declared.texts.EscapeRead.{EscapeRead}
 use Rattle.fields.specs.declared.texts.TextJudged.{TextJudged}
-use Rattle.fields.specs.declared.octets.OctetRead.{OctetRead}
-use Rattle.fields.specs.declared.groups.GroupRead.{GroupRead}
 use Rattle.fields.specs.declared.times.TimeRead.{TimeRead}
-use Rattle.fields.specs.declared.numbers.NumberRead.{NumberRead}
 use Rattle.fields.specs.declared.names.NameJudged.{NameJudged}
-
-abbrev pub numberRead : NumberRead → Option ℕ
-numberRead (NumberRead.Good value) = some value
-numberRead NumberRead.Bad = none
 
 -- a name by its length alone
 abbrev pub judgedOf : NameRead → NameJudged
@@ -45,11 +37,3 @@ escapeRead EscapeRead.Bad = none
 abbrev pub textJudged : Option (List ℕ) → TextJudged
 textJudged none = TextJudged.Bad
 textJudged (some bytes) = TextJudged.Good (length bytes)
-
-abbrev pub octetRead : OctetRead → Option ℕ
-octetRead (OctetRead.Good value) = some value
-octetRead OctetRead.Bad = none
-
-abbrev pub groupRead : GroupRead → Option ℕ
-groupRead (GroupRead.Good value) = some value
-groupRead GroupRead.Bad = none

@@ -1,12 +1,6 @@
-// The fields of a line, each read by a function of its own. specs/Views.antt says what their answers mean.
-pub mod addresses;
+// The fields of a line, each read by a function of its own, and the fault of each. specs/Views.antt says what the answers mean.
 pub mod codes;
 pub mod faults;
-pub mod groups;
-pub mod hex;
 pub mod names;
-pub mod numbers;
-pub mod octets;
-pub mod pieces;
 pub mod texts;
 pub mod times;

@@ -8,7 +8,7 @@ ghost use Rattle.rules.specs.Lists.{sameBytes};
 ghost use Rattle.rules.specs.Names.{label, nameOf, wireOf};
 ghost use Rattle.wire.specs.Put.{IsPut};
 ghost use Rattle.fields.specs.Views.{judgedOf, isNamed};
-ghost use Rattle.fields.specs.Counts.{byteKind, judgedSize};
+ghost use Rattle.fields.specs.NameCounts.{byteKind, judgedSize};
 use rules::faults::NameFault;
 
 // A name with its length on the wire, or its first fault and that fault's place in the text, from 0.

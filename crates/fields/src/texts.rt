@@ -8,7 +8,7 @@ ghost use Rattle.rules.specs.Lists.{isSome, valueOr};
 ghost use Rattle.rules.specs.Fields.{textOf};
 ghost use Rattle.wire.specs.Put.{IsPut};
 ghost use Rattle.fields.specs.Views.{escapeRead, textJudged};
-ghost use Rattle.fields.specs.Counts.{escapeOf, escapeIn, escapesAt, byteAt, IsStep};
+ghost use Rattle.fields.specs.TextSteps.{escapeOf, escapeIn, escapesAt, byteAt, IsStep};
 
 // The count of bytes that a text stands for.
 pub enum TextJudged {

@@ -2,7 +2,7 @@
 ghost use mathlib.Core.Path.{_≡_};
 ghost use Rattle.rules.specs.Fields.{timeOf};
 ghost use Rattle.fields.specs.Views.{timeRead};
-use crate::hex::hex_digit;
+use addresses::hex::hex_digit;
 use rules::quantities::Moment;
 
 pub enum TimeRead {

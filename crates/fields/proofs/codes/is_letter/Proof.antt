@@ -1,5 +1,4 @@
 use Rattle.fields.proofs.Letter.{letter·laws}
-use borrow.Author.Needs.{needs}
 use Rattle.fields.proofs.codes.is_letter.Statement.{statement}
 use Rattle.fields.proofs.codes.is_letter.Tie as tie
 

@@ -1,5 +1,4 @@
 use Rattle.fields.proofs.Letter.{lo·laws}
-use borrow.Author.Needs.{needs}
 use Rattle.fields.proofs.codes.lo.Statement.{statement}
 use Rattle.fields.proofs.codes.lo.Tie as tie
 

@@ -1,5 +1,4 @@
 use Rattle.fields.proofs.Letter.{code·laws}
-use borrow.Author.Needs.{needs}
 use Rattle.fields.proofs.codes.two_letters.Statement.{statement}
 use Rattle.fields.proofs.codes.two_letters.Tie as tie
 

@@ -1,7 +1,6 @@
 use Prim.Native.Nat.{_+_, _-_, _≤_}
 use lib.ListN.{length}
 use Rattle.fields.proofs.Name.{Going, name·laws}
-use borrow.Author.Needs.{needs}
 use Rattle.fields.proofs.names.judge_name.Statement.{statement}
 use Rattle.fields.proofs.names.judge_name.Tie as tie
 

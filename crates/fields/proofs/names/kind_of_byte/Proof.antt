@@ -1,8 +1,7 @@
 use Rattle.rules.specs.Lists.{pick}
 use Rattle.rules.specs.Names.{nameByte}
 use Rattle.wire.proofs.Steps.{tests}
-use Rattle.fields.specs.Counts.{byteKind}
-use borrow.Author.Needs.{needs}
+use Rattle.fields.specs.NameCounts.{byteKind}
 use Rattle.fields.proofs.names.kind_of_byte.Statement.{statement}
 use Rattle.fields.proofs.names.kind_of_byte.Tie as tie
 

@@ -1,8 +1,7 @@
 use Rattle.rules.specs.Lists.{pick}
 use Rattle.rules.specs.Names.{longestName}
 use Rattle.wire.proofs.Steps.{tests}
-use Rattle.fields.specs.Counts.{judgedSize}
-use borrow.Author.Needs.{needs}
+use Rattle.fields.specs.NameCounts.{judgedSize}
 use Rattle.fields.proofs.names.sized.Statement.{statement}
 use Rattle.fields.proofs.names.sized.Tie as tie
 

@@ -1,8 +1,7 @@
 use Rattle.rules.specs.Lists.{pick}
 use Rattle.rules.specs.Fields.{octal}
 use Rattle.wire.proofs.Steps.{tests}
-use Rattle.fields.specs.Counts.{escapeOf}
-use borrow.Author.Needs.{needs}
+use Rattle.fields.specs.TextSteps.{escapeOf}
 use Rattle.fields.proofs.texts.escape.Statement.{statement}
 use Rattle.fields.proofs.texts.escape.Tie as tie
 

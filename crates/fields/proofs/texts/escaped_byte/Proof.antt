@@ -1,5 +1,4 @@
 use Rattle.fields.proofs.Escape.{byte·laws}
-use borrow.Author.Needs.{needs}
 use Rattle.fields.proofs.texts.escaped_byte.Statement.{statement}
 use Rattle.fields.proofs.texts.escaped_byte.Tie as tie
 

@@ -1,5 +1,4 @@
 use Rattle.fields.proofs.Escape.{escape·laws}
-use borrow.Author.Needs.{needs}
 use Rattle.fields.proofs.texts.has_escape.Statement.{statement}
 use Rattle.fields.proofs.texts.has_escape.Tie as tie
 

@@ -1,7 +1,6 @@
 use Prim.Native.Nat.{_-_, _≤_}
 use lib.ListN.{length}
 use Rattle.fields.proofs.TextCount.{Counted, text·laws}
-use borrow.Author.Needs.{needs}
 use Rattle.fields.proofs.texts.judge_text.Statement.{statement}
 use Rattle.fields.proofs.texts.judge_text.Tie as tie
 

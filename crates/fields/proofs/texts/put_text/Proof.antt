@@ -2,7 +2,6 @@ use mathlib.Core.Path.{_≡_}
 use Prim.Native.Nat.{_-_, _≤_}
 use lib.ListN.{length}
 use Rattle.fields.proofs.TextPut.{TextPut, put·laws}
-use borrow.Author.Needs.{needs}
 use Rattle.fields.proofs.texts.put_text.Statement.{statement}
 use Rattle.fields.proofs.texts.put_text.Tie as tie
 

@@ -1,5 +1,4 @@
 use Rattle.fields.proofs.Escape.{step·laws}
-use borrow.Author.Needs.{needs}
 use Rattle.fields.proofs.texts.step_at.Statement.{statement}
 use Rattle.fields.proofs.texts.step_at.Tie as tie
 

@@ -1,9 +1,8 @@
 use Prim.Native.Nat.{_-_, _^_, _<_, _≤_}
 use lib.ListN.{length}
 use Rattle.rules.specs.Fields.{lowerHexDigit}
-use Rattle.fields.proofs.HexDigit.{Hex}
+use Rattle.addresses.proofs.HexDigit.{Hex}
 use Rattle.fields.proofs.Time.{time·laws}
-use borrow.Author.Needs.{needs}
 use Rattle.fields.proofs.times.time.Statement.{statement}
 use Rattle.fields.proofs.times.time.Tie as tie
 

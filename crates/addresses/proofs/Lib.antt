@@ -1,0 +1,9 @@
+pub mod Number
+pub mod HexDigit
+pub mod Piece
+pub mod Octet
+pub mod Group
+pub mod Taken
+pub mod Dotted
+pub mod Grouped
+pub mod Address
