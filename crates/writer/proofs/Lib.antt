@@ -1,2 +1,3 @@
+pub mod Addressing
 pub mod Holding
 pub mod Valuing

@@ -18,8 +18,9 @@ use Rattle.rules.specs.declared.quantities.Moment.{Moment}
 use Rattle.rules.specs.declared.quantities.Shared.{Shared}
 use Rattle.rules.specs.declared.quantities.Ttl.{Ttl}
 use Rattle.rules.proofs.Fields.{number-most}
-use Rattle.fields.specs.Views.{numberRead, timeRead, loRead}
-use Rattle.fields.specs.declared.numbers.NumberRead.{NumberRead}
+use Rattle.addresses.specs.Views.{numberRead}
+use Rattle.fields.specs.Views.{timeRead, loRead}
+use Rattle.addresses.specs.declared.numbers.NumberRead.{NumberRead}
 use Rattle.fields.specs.declared.times.TimeRead.{TimeRead}
 use Rattle.fields.specs.declared.codes.LoRead.{LoRead}
 use Rattle.lines.specs.Rows.{rowOf}

@@ -8,6 +8,7 @@ use Rattle.rules.specs.Lists.{has}
 use Rattle.rules.specs.Names.{nameOf}
 use Rattle.rules.specs.Records.{hostName}
 use Rattle.fields.specs.Views.{isNamed}
+use Rattle.addresses.specs.declared.addresses.AddressRead.{AddressRead}
 use Rattle.writer.specs.declared.names.Name.{Name}
 
 pub record IsName (wire : List ℕ) (r : Name) : Type 0 where
@@ -22,3 +23,11 @@ pub record HostGood (owner x middle : List ℕ) : Type 0 where
   pub label : has 46 x ≡ false → length x ≤ 63
   pub small : length middle ≤ 63
   pub short : length (hostName middle owner x) ≤ 255
+
+-- an address that is held by value, of no bytes where there is none
+unfoldable pub heldAddress : AddressRead → List ℕ
+heldAddress a = take (a .len) (a .bytes)
+
+pub record IsHeld (a : AddressRead) : Type 0 where
+  pub few : a .len ≤ 16
+  pub long : length (a .bytes) ≡ 16

@@ -8,7 +8,7 @@ ghost use Rattle.rules.specs.Bytes.{bytesOf};
 ghost use Rattle.rules.specs.Records.{addressRecords};
 ghost use Rattle.wire.specs.Put.{IsPut};
 ghost use Rattle.writer.specs.Held.{heldAddress, IsHeld};
-use fields::addresses::AddressRead;
+use addresses::addresses::AddressRead;
 use records::resources::put_resource;
 use rules::quantities::Shared;
 
