@@ -14,7 +14,7 @@ use Rattle.rules.proofs.Names.{Wire, OnName, name-ok, short-of}
 use Rattle.wire.specs.Put.{IsPut}
 use Rattle.wire.proofs.Puts.{put-length, behind-length, front, within, then}
 use Rattle.fields.specs.Views.{isNamed}
-use Rattle.writer.specs.Held.{IsName, HostGood}
+use Rattle.writer.specs.Held.{heldName, IsName, HostGood}
 use Rattle.writer.specs.declared.names.Name.{Name}
 
 wire-short : (r : NameRead) → OnName Wire r → length (wireIn r) ≤ 255
@@ -28,6 +28,7 @@ name-short t n h = omega (arith, wire-short (nameOf t) (name-ok t))
 
 -- bytes that were put at the front of an array of 255
 pub held-name : (w d e : List ℕ) (r : ℕ) → IsPut w d e r → length d ≡ 255 → IsName w (record { bytes = e; len = r })
+unfolding heldName
 held-name w d e r p h =
     record { held = front w d e r p; size = p .count; short = omega (arith, p .count, p .room); long = put-length w d e r p ∙ h }
 

@@ -1,3 +1,4 @@
 pub mod Addressing
 pub mod Holding
+pub mod Readiness
 pub mod Valuing

@@ -11,8 +11,12 @@ use Rattle.fields.specs.Views.{isNamed}
 use Rattle.addresses.specs.declared.addresses.AddressRead.{AddressRead}
 use Rattle.writer.specs.declared.names.Name.{Name}
 
+-- the bytes of a name
+unfoldable pub heldName : Name → List ℕ
+heldName n = take (n .len) (n .bytes)
+
 pub record IsName (wire : List ℕ) (r : Name) : Type 0 where
-  pub held : take (r .len) (r .bytes) ≡ wire
+  pub held : heldName r ≡ wire
   pub size : r .len ≡ length wire
   pub short : r .len ≤ 255
   pub long : length (r .bytes) ≡ 255

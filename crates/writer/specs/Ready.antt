@@ -1,0 +1,62 @@
+-- A line that can be written: its fields are found, and it has no fault.
+use mathlib.Core.Path.{_≡_}
+use mathlib.Core.Bool.{Bool, true, false}
+use mathlib.Core.List.{List, []}
+use Prim.Native.Nat.{ℕ, _≤_}
+use lib.ListN.{length}
+use lib.Dec.{T}
+use Rattle.rules.specs.Lists.{splitOn}
+use Rattle.rules.specs.Kinds.{fieldAt}
+use Rattle.rules.specs.Names.{wireOf}
+use Rattle.rules.specs.Records.{ns, mx, srv, sharedOf, hostName, addressIn}
+use Rattle.rules.specs.Answers.{isDone, kindFault}
+use Rattle.rules.specs.declared.kinds.Kind.{Kind}
+use Rattle.lines.specs.Splits.{FieldsOf}
+use Rattle.lines.specs.declared.splits.Span.{Span}
+use Rattle.writer.specs.Held.{IsName, heldAddress, IsHeld}
+use Rattle.writer.specs.declared.hosts.HostLine.{HostLine}
+
+pub record Ready (kind : Kind) (s : List ℕ) (spans : List Span) : Type 0 where
+  pub fields : FieldsOf s spans
+  pub short : length s ≤ 1024
+  pub good : T (isDone (kindFault kind (splitOn 58 s) .fault))
+
+-- the label that stands between x and the fqdn
+unfoldable pub middleOf : Kind → List ℕ
+middleOf Kind.Location = []
+middleOf Kind.Zone = ns
+middleOf Kind.Delegation = ns
+middleOf Kind.Host = []
+middleOf Kind.Alias = []
+middleOf Kind.Mail = mx
+middleOf Kind.Service = srv
+middleOf Kind.Text = []
+middleOf Kind.Pointer = []
+middleOf Kind.Canonical = []
+middleOf Kind.Authority = []
+middleOf Kind.Generic = []
+middleOf Kind.Unknown = []
+
+-- the kinds with a field x
+abbrev pub namesHost : Kind → Bool
+namesHost Kind.Location = false
+namesHost Kind.Zone = true
+namesHost Kind.Delegation = true
+namesHost Kind.Host = false
+namesHost Kind.Alias = false
+namesHost Kind.Mail = true
+namesHost Kind.Service = true
+namesHost Kind.Text = false
+namesHost Kind.Pointer = false
+namesHost Kind.Canonical = false
+namesHost Kind.Authority = false
+namesHost Kind.Generic = false
+namesHost Kind.Unknown = false
+
+-- what is read of such a line
+pub record IsHostLine (kind : Kind) (s : List ℕ) (h : HostLine) : Type 0 where
+  pub shared : h .shared ≡ sharedOf kind (splitOn 58 s)
+  pub owner : IsName (wireOf (fieldAt (splitOn 58 s) 0)) (h .owner)
+  pub host : IsName (hostName (middleOf kind) (wireOf (fieldAt (splitOn 58 s) 0)) (fieldAt (splitOn 58 s) 2)) (h .host)
+  pub address : heldAddress (h .address) ≡ addressIn (fieldAt (splitOn 58 s) 1)
+  pub held : IsHeld (h .address)
