@@ -1,3 +1,4 @@
+pub mod AddressLines
 pub mod Addressing
 pub mod Holding
 pub mod HostRecords
