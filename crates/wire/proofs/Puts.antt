@@ -1,13 +1,13 @@
 -- The laws of bytes put at the front of a lent buffer.
 use mathlib.Core.Path.{_≡_, refl, ap, _∙_, sym}
 use mathlib.Core.List.{List, [], _∷_, _++_, map, map-append, append-assoc}
-use Prim.Native.Nat.{ℕ, suc, _+_, _-_, _<_, _≤_}
+use Prim.Native.Nat.{ℕ, _+_, _-_, _<_, _≤_}
 use native.Mathlib.Numerals.{add-one}
 use native.Mathlib.Omega.{arith}
 use borrow.Author.Needs.{needs}
 use lib.ListN.{length, getD, take, drop, set, length-append, length-drop, length-map}
 use lib.Seq.{take-suc, take-all, length-take-le, take-at, drop-at, drop-drop}
-use Rattle.wire.proofs.Steps.{put-front}
+use Rattle.wire.proofs.Steps.{put-front, take-put}
 use Rattle.wire.proofs.Parts.{tail-lent, tail-back}
 use borrow.Rule.Slice.PartMut.{putMid}
 use Rattle.wire.specs.Put.{IsPut}
@@ -35,6 +35,13 @@ module _ (f : ℕ → ℕ) where
 pub byte : (d : List ℕ) (b : ℕ) → 1 ≤ length d → IsPut (b ∷ []) d (set d 0 b) 1
 byte [] b h = absurd (omega arith)
 byte (x ∷ d) b h = record { count = refl; room = omega arith; holds = refl }
+
+-- a store behind what was put
+pub stored : (x d e : List ℕ) (i b : ℕ) → IsPut x d e i → i < length d → IsPut (x ++ b ∷ []) d (set e i b) (i + 1)
+stored x d e i b p h =
+    let l : length (x ++ b ∷ []) ≡ i + 1 = simp length-append (omega (arith, p .count)) in
+    let q : length x ≡ i = sym (p .count) in
+    record { count = sym l; room = omega arith; holds = rw (l, p .holds, q) (put-front x d i b q h) }
 
 -- what is lent behind what was put
 module _ (x d e : List ℕ) (r : ℕ) (p : IsPut x d e r) where
@@ -75,6 +82,9 @@ Run d e r = IsPut (take r e) d e r
 
 pub run-none : (d : List ℕ) → Run d d 0
 run-none d = record { count = refl; room = omega arith; holds = refl }
+
+pub run-store : (d e : List ℕ) (i b : ℕ) → Run d e i → i < length e → i < length d → Run d (set e i b) (i + 1)
+run-store d e i b p h k = rw (take-put e i b h) (stored (take i e) d e i b p k)
 
 module _ (d e : List ℕ) (r : ℕ) (p : Run d e r) (y f : List ℕ) (k : ℕ) (q : IsPut y (take (length e - r) (drop r e)) f k) where
   pub run-front : take (r + k) (putMid r (length e - r) e f) ≡ take r e ++ y

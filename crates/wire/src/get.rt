@@ -1,0 +1,96 @@
+// Readers of bytes: numbers and comparisons.
+ghost use mathlib.Core.Path.{_≡_};
+ghost use mathlib.Core.List.{map};
+ghost use Prim.Native.Nat.{_<_, _≤_};
+ghost use lib.ListN.{length};
+ghost use Rattle.rules.specs.Lists.{lower, fromBE, fromLE, sameBytes, beginsWith};
+use crate::letters::lowered;
+
+// A byte as a number that sums of bytes fit.
+pub fn wide(x: u8) -> u64
+    ensures { λ r. ⌜ r ≡ x ⌝ }
+    ensures { λ r. ⌜ r < 256 ⌝ }
+{
+    x as u64
+}
+
+// The number that bytes are, the highest first.
+pub fn get_be(bytes: &[u8]) -> u64
+    requires { ⌜ length (now bytes) ≤ 8 ⌝ }
+    ensures { λ r. ⌜ r ≡ fromBE 0 (now (bytes .entry)) ⌝ }
+{
+    let n = bytes.len();
+    let mut number: u64 = 0;
+    let mut i: usize = 0;
+    while i < n {
+        number = number * 256 + wide(bytes[i]);
+        i += 1;
+    }
+    number
+}
+
+// The number that bytes are, the lowest first.
+pub fn get_le(bytes: &[u8]) -> u64
+    requires { ⌜ length (now bytes) ≤ 8 ⌝ }
+    ensures { λ r. ⌜ r ≡ fromLE (now (bytes .entry)) ⌝ }
+{
+    let mut value: u64 = 0;
+    let mut i: usize = bytes.len();
+    while 0 < i {
+        i -= 1;
+        value = value * 256 + wide(bytes[i]);
+    }
+    value
+}
+
+pub fn same(a: &[u8], b: &[u8]) -> bool
+    ensures { λ r. ⌜ r ≡ sameBytes (now (a .entry)) (now (b .entry)) ⌝ }
+{
+    let n = a.len();
+    if n != b.len() {
+        return false;
+    }
+    let mut i: usize = 0;
+    while i < n {
+        if a[i] != b[i] {
+            return false;
+        }
+        i += 1;
+    }
+    true
+}
+
+pub fn begins_with(prefix: &[u8], bytes: &[u8]) -> bool
+    ensures { λ r. ⌜ r ≡ beginsWith (now (prefix .entry)) (now (bytes .entry)) ⌝ }
+{
+    let n = prefix.len();
+    if bytes.len() < n {
+        return false;
+    }
+    let mut i: usize = 0;
+    while i < n {
+        if prefix[i] != bytes[i] {
+            return false;
+        }
+        i += 1;
+    }
+    true
+}
+
+// Whether a key is a name with its letters lowered.
+pub fn same_lowered(key: &[u8], name: &[u8]) -> bool
+    ensures { λ r. ⌜ r ≡ sameBytes (now (key .entry)) (map lower (now (name .entry))) ⌝ }
+{
+    let n = key.len();
+    if n != name.len() {
+        return false;
+    }
+    let mut i: usize = 0;
+    while i < n {
+        if key[i] != lowered(name[i]) {
+            return false;
+        }
+        i += 1;
+    }
+    true
+}
