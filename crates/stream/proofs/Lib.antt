@@ -1,3 +1,4 @@
 pub mod Labels
 pub mod Heads
 pub mod Spans
+pub mod SeenRecords
