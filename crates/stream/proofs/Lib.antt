@@ -2,3 +2,4 @@ pub mod Labels
 pub mod Heads
 pub mod Spans
 pub mod SeenRecords
+pub mod Meanings
