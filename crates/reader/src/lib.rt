@@ -1,0 +1,1 @@
+// Asking: the records of a compiled stream that answer a question, found in passes over the stream itself.
