@@ -1,1 +1,3 @@
 pub mod Levels
+pub mod Shapes
+pub mod Locating

@@ -1,1 +1,2 @@
 // Asking: the records of a compiled stream that answer a question, found in passes over the stream itself.
+pub mod locate;

@@ -4,9 +4,16 @@ ghost use Prim.Native.Nat.{_≤_};
 ghost use lib.ListN.{length, drop, getD};
 ghost use Rattle.rules.specs.Reading.{byFlag, resourceIn, locationIn, recordIn};
 ghost use Rattle.stream.specs.Seen.{goodKey, sharedIn, plainIn, locatedIn, seenRecord};
-use crate::names::{is_lo, is_lowered, is_wild, is_wire};
-use rules::quantities::{Lo, Moment, Shared, Ttl};
-use wire::get::{get_be, wide};
+use crate::names::is_lo;
+use crate::names::is_lowered;
+use crate::names::is_wild;
+use crate::names::is_wire;
+use rules::quantities::Lo;
+use rules::quantities::Moment;
+use rules::quantities::Shared;
+use rules::quantities::Ttl;
+use wire::get::get_be;
+use wire::get::wide;
 
 // A record that was read. Of a resource record the record data begin at `fixed` in its data; a wildcard's key lacks the label `*`.
 pub enum Seen {
