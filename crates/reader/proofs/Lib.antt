@@ -1,3 +1,4 @@
 pub mod Levels
 pub mod Shapes
 pub mod Locating
+pub mod Viewing

@@ -1,2 +1,4 @@
 // Asking: the records of a compiled stream that answer a question, found in passes over the stream itself.
+pub mod level;
 pub mod locate;
+pub mod view;

@@ -1,0 +1,1 @@
+// The pass that finds the level of a question.
