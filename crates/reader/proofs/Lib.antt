@@ -2,3 +2,4 @@ pub mod Levels
 pub mod Shapes
 pub mod Locating
 pub mod Viewing
+pub mod Ranking
