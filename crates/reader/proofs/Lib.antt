@@ -3,3 +3,5 @@ pub mod Shapes
 pub mod Locating
 pub mod Viewing
 pub mod Ranking
+pub mod KeyRanks
+pub mod Bests

@@ -79,7 +79,7 @@ resource-shape key (t ∷ []) = tt
 resource-shape key (t ∷ u ∷ []) = tt
 resource-shape key (t ∷ u ∷ flag ∷ rest) = flag-shape key (t ∷ u ∷ flag ∷ rest) (fromBE 0 (t ∷ u ∷ [])) flag rest (omega arith)
 
-shape : (key rdata : List ℕ) → OnSome (Shape key rdata) (recordIn key rdata)
+pub shape : (key rdata : List ℕ) → OnSome (Shape key rdata) (recordIn key rdata)
 unfolding recordIn locationIn
 shape [] rdata = tt
 shape (zero ∷ []) rdata = resource-shape (zero ∷ []) rdata

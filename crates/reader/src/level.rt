@@ -10,8 +10,10 @@ ghost use Rattle.reader.specs.Ranks.{among, keyRank, rankIn, seenRank, l
 use crate::view::visible;
 use rules::quantities::Lo;
 use stream::head::span_at;
-use stream::record::{Seen, record_in};
-use wire::get::{same_lowered, wide};
+use stream::record::Seen;
+use stream::record::record_in;
+use wire::get::same_lowered;
+use wire::get::wide;
 use wire::letters::lowered;
 
 // Whether a key is what stands behind some label of a name. An ancestor is shorter than the name; most keys that aren't one end here.
@@ -104,7 +106,13 @@ pub fn best_rank(stream: &[u8], name: &[u8], here: Lo, moment: u64) -> usize
         let start = span.start;
         let middle = span.middle;
         let next = span.next;
-        let found = rank_in(name, here, moment, &stream[start..middle], &stream[middle..next]);
+        let found = rank_in(
+            name,
+            here,
+            moment,
+            &stream[start..middle],
+            &stream[middle..next],
+        );
         if best < found {
             best = found;
             at = next;
