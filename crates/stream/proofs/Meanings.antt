@@ -15,9 +15,10 @@ use Rattle.rules.specs.Lists.{pick, fromBE}
 use Rattle.rules.specs.Fields.{largestTtl}
 use Rattle.rules.specs.Records.{Record, location, resource, loBytes}
 use Rattle.rules.specs.Reading.{isLo, momentEnd, behindLo, withLo, byFlag, resourceIn, locationIn, recordIn}
+use Rattle.rules.proofs.Tests.{pick-ok, tests}
 use Rattle.stream.specs.declared.record.Seen.{Seen}
 use Rattle.stream.specs.declared.record.Fields.{Fields}
-use Rattle.stream.specs.Seen.{ownerOf, goodKey, seenRecord, sharedIn, seenWith, plainIn, loIn, locatedIn}
+use Rattle.stream.specs.Seen.{ownerOf, goodKey, seenRecord, sharedIn, seenWith, plainIn, loIn, locatedIn, fixedIn}
 
 -- ---- by the flag
 
@@ -83,7 +84,38 @@ pub no-flag : (key rdata : List ℕ) (type : ℕ) → (getD rdata 2 0 ≡ 61 →
 unfolding byFlag seenRecord pick
 no-flag key rdata type a b c d = rw (ne-eqb _ _ a, ne-eqb _ _ b, ne-eqb _ _ c, ne-eqb _ _ d)
 
-pub ruleset flag·laws = (needs, equals, greater, star, plus, no-flag)
+-- the fixed fields are there
+module _ (key rdata : List ℕ) (w : Bool) (type : ℕ) where
+  behind-fixed : (lo : Lo) (at : ℕ) → fixedIn (seenWith w type (at + 12) (sharedIn lo (drop at rdata))) ≤ length rdata
+  unfolding seenWith sharedIn fixedIn
+  behind-fixed lo at =
+      pick-ok (λ f. fixedIn (seenWith w type (at + 12) f) ≤ length rdata) _
+      (λ t. let h : 12 ≤ length (drop at rdata) = search tests in omega (arith, length-drop at rdata))
+      (λ t. omega arith)
+
+  good-fixed : (t : Bool) (s : Seen) → fixedIn s ≤ length rdata → fixedIn (pick t s Seen.Broken) ≤ length rdata
+  unfolding fixedIn pick
+  good-fixed true s h = h
+  good-fixed false s h = omega arith
+
+  pub plain-fixed : (r : Seen) → r ≡ plainIn key rdata w type → fixedIn r ≤ length rdata
+  unfolding plainIn
+  plain-fixed r e = rw e (good-fixed (goodKey w key) _ (behind-fixed Lo.Every 3))
+
+  pub located-fixed : (r : Seen) → r ≡ locatedIn key rdata w type → fixedIn r ≤ length rdata
+  unfolding locatedIn
+  located-fixed r e =
+      rw e (good-fixed (goodKey w key) _ (good-fixed (isLo (take 2 (drop 3 rdata))) _ (behind-fixed (loIn (drop 3 rdata)) 5)))
+
+pub no-fixed : (rdata : List ℕ) → fixedIn Seen.Broken ≤ length rdata
+unfolding fixedIn
+no-fixed rdata = omega arith
+
+pub location-fixed : (rdata : List ℕ) (lo : Lo) → fixedIn (Seen.Location lo) ≤ length rdata
+unfolding fixedIn
+location-fixed rdata lo = omega arith
+
+pub ruleset flag·laws = (needs, equals, greater, star, plus, no-flag, plain-fixed, located-fixed, no-fixed)
 
 -- ---- by the type
 
@@ -105,7 +137,7 @@ module _ (key : List ℕ) where
       let q : high * 256 + low ≡ (0 * 256 + t) * 256 + u = omega arith in
       rw q at e
 
-pub ruleset type·laws = (needs, no-flag-byte, typed)
+pub ruleset type·laws = (needs, no-flag-byte, typed, no-fixed)
 
 -- ---- a location
 
@@ -152,7 +184,7 @@ module _ (key rdata : List ℕ) where
         unfolding seenRecord locationIn pick
         not-coded y = rw (eq-eqb _ _ mark, prefix-short, code-is, y)
 
-pub ruleset location·laws = (needs, no-mark, prefix-long, not-two, coded, not-coded)
+pub ruleset location·laws = (needs, no-mark, prefix-long, not-two, coded, not-coded, no-fixed, location-fixed)
 
 -- ---- by the key
 
@@ -183,4 +215,4 @@ module _ (rdata : List ℕ) where
   location-key (zero ∷ b ∷ key) r h k z e = e
   location-key (suc a ∷ b ∷ key) r h k z e = absurd (omega arith)
 
-pub ruleset record·laws = (needs, no-key, root-key, name-key, location-key)
+pub ruleset record·laws = (needs, no-key, root-key, name-key, location-key, no-fixed)

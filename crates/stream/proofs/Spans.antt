@@ -50,6 +50,7 @@ module _ (stream : List ℕ) (at : ℕ) (h : Head) (e : h ≡ headOf (take (leng
         let q : at + sizeAt (drop at stream) ≡ at + 8 + k + d = unfold sizeAt in omega (arith, whole .key-is, whole .data-is) in
         record {
           says = decode-more (drop at stream) left-long ∙ rw (whole .fit, key-part, data-part, drop-drop (sizeAt (drop at stream)) at stream, q);
+          lengths-first = λ h. refl;
           goes-on = omega arith;
           inside = long-enough;
           key-first = omega arith;
@@ -62,6 +63,7 @@ module _ (stream : List ℕ) (at : ℕ) (h : Head) (e : h ≡ headOf (take (leng
       let q : at - at ≡ 0 = omega arith in
       record {
         says = decode-more (drop at stream) left-long ∙ rw (broken-is (drop at stream) (sym w ∙ head-left), q);
+        lengths-first = λ h. omega arith;
         goes-on = l;
         inside = omega arith;
         key-first = omega arith;

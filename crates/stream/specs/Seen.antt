@@ -28,6 +28,12 @@ seenRecord key rdata (Seen.Location lo) = some (location (drop 2 key) (loBytes l
 seenRecord key rdata (Seen.Resource wild type shared fixed) =
     some (resource (ownerOf wild key) type (loBytes (shared .lo)) (shared .ttl .0) (shared .time .0) (drop fixed rdata))
 
+-- where the record data begin
+unfoldable pub fixedIn : Seen → ℕ
+fixedIn Seen.Broken = 0
+fixedIn (Seen.Location lo) = 0
+fixedIn (Seen.Resource wild type shared fixed) = fixed
+
 -- ttl and time behind lo, as rules' behindLo reads them
 unfoldable pub sharedIn : Lo → List ℕ → Fields
 sharedIn lo rest =

@@ -1,5 +1,5 @@
 -- The place of a record in its stream.
-use Prim.Native.Nat.{ℕ, _-_, _<_, _≤_}
+use Prim.Native.Nat.{ℕ, _+_, _-_, _<_, _≤_}
 use mathlib.Core.Path.{_≡_}
 use mathlib.Core.List.{List}
 use lib.ListN.{length, take, drop}
@@ -13,6 +13,7 @@ part stream from to = take (to - from) (drop from stream)
 -- what is at a place is a record's key and data, and what is behind them
 pub record IsSpan (stream : List ℕ) (at : ℕ) (r : Span) : Type 0 where
   pub says : decode (drop at stream) ≡ ontoRecords (recordIn (part stream (r .start) (r .middle)) (part stream (r .middle) (r .next))) (decode (drop (r .next) stream))
+  pub lengths-first : r .start < r .middle → r .start ≡ at + 8
   pub goes-on : at < r .next
   pub inside : r .next ≤ length stream
   pub key-first : r .start ≤ r .middle

@@ -3,7 +3,7 @@ ghost use mathlib.Core.Path.{_≡_};
 ghost use Prim.Native.Nat.{_≤_};
 ghost use lib.ListN.{length, drop, getD};
 ghost use Rattle.rules.specs.Reading.{byFlag, resourceIn, locationIn, recordIn};
-ghost use Rattle.stream.specs.Seen.{goodKey, sharedIn, plainIn, locatedIn, seenRecord};
+ghost use Rattle.stream.specs.Seen.{goodKey, sharedIn, plainIn, locatedIn, seenRecord, fixedIn};
 use crate::names::is_lo;
 use crate::names::is_lowered;
 use crate::names::is_wild;
@@ -122,6 +122,7 @@ fn located_in(key: &[u8], rdata: &[u8], wild: bool, rtype: u16) -> Seen
 fn by_flag(key: &[u8], rdata: &[u8], rtype: u16) -> Seen
     requires { ⌜ 3 ≤ length (now rdata) ⌝ }
     ensures { λ r. ⌜ seenRecord (now (key .entry)) (now (rdata .entry)) r ≡ byFlag (now (key .entry)) rtype (getD (now (rdata .entry)) 2 0) (drop 3 (now (rdata .entry))) ⌝ }
+    ensures { λ r. ⌜ fixedIn r ≤ length (now (rdata .entry)) ⌝ }
 {
     match rdata[2] {
         61 => plain_in(key, rdata, false, rtype),
@@ -134,6 +135,7 @@ fn by_flag(key: &[u8], rdata: &[u8], rtype: u16) -> Seen
 
 fn resource_in(key: &[u8], rdata: &[u8]) -> Seen
     ensures { λ r. ⌜ seenRecord (now (key .entry)) (now (rdata .entry)) r ≡ resourceIn (now (key .entry)) (now (rdata .entry)) ⌝ }
+    ensures { λ r. ⌜ fixedIn r ≤ length (now (rdata .entry)) ⌝ }
 {
     if rdata.len() < 3 {
         return Seen::Broken;
@@ -147,6 +149,7 @@ fn resource_in(key: &[u8], rdata: &[u8]) -> Seen
 fn location_in(key: &[u8], rdata: &[u8]) -> Seen
     requires { ⌜ 2 ≤ length (now key) ⌝ }
     ensures { λ r. ⌜ seenRecord (now (key .entry)) (now (rdata .entry)) r ≡ locationIn (getD (now (key .entry)) 1 0) (drop 2 (now (key .entry))) (now (rdata .entry)) ⌝ }
+    ensures { λ r. ⌜ fixedIn r ≤ length (now (rdata .entry)) ⌝ }
 {
     if key[1] != 37 {
         return Seen::Broken;
@@ -167,6 +170,7 @@ fn location_in(key: &[u8], rdata: &[u8]) -> Seen
 // The record of a key and its data, or that they are none.
 pub fn record_in(key: &[u8], rdata: &[u8]) -> Seen
     ensures { λ r. ⌜ seenRecord (now (key .entry)) (now (rdata .entry)) r ≡ recordIn (now (key .entry)) (now (rdata .entry)) ⌝ }
+    ensures { λ r. ⌜ fixedIn r ≤ length (now (rdata .entry)) ⌝ }
 {
     let n = key.len();
     if n == 0 {
