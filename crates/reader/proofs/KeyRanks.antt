@@ -23,7 +23,7 @@ use Rattle.stream.specs.declared.record.Seen.{Seen}
 use Rattle.stream.specs.Seen.{ownerOf, goodKey, seenRecord}
 use Rattle.reader.specs.Views.{sharing}
 use Rattle.reader.specs.Ranks.{rankAmong, rankOf, among, keyRank, seenRank, rankIn}
-use Rattle.reader.proofs.Shapes.{FromKey, Shape, shape, shaped}
+use Rattle.reader.proofs.Shapes.{FromKey, Shape, shape, shaped, is-false}
 
 -- ---- keys
 
@@ -37,10 +37,6 @@ lowered-same (b ∷ key) t =
 is-true : (b : Bool) → T b → b ≡ true
 is-true true t = refl
 is-true false t = absurd t
-
-is-false : (b : Bool) → T (not b) → b ≡ false
-is-false true t = absurd t
-is-false false t = refl
 
 module _ (key : List ℕ) (g : T (ordinaryKey key)) where
   ordinary-lowered : map lower key ≡ key

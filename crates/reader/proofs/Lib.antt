@@ -5,3 +5,4 @@ pub mod Viewing
 pub mod Ranking
 pub mod KeyRanks
 pub mod Bests
+pub mod Picking

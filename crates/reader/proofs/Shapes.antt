@@ -7,13 +7,14 @@ use Prim.Native.Nat.{ℕ, zero, suc, _+_, _<_, _≤_}
 use native.Mathlib.Omega.{arith}
 use lib.ListN.{length, take, drop, length-append, length-map, length-drop}
 use lib.Dec.{T, eqb, leb, ltb}
-use Rattle.rules.specs.Lists.{pick, lower, fromBE}
+use Rattle.rules.specs.Lists.{pick, lower, fromBE, beginsWith}
 use Rattle.rules.specs.Fields.{largestTtl}
 use Rattle.rules.specs.Records.{Record, location, resource}
 use Rattle.rules.specs.Bytes.{wild, unstarred, keyOf, flagAndLo, rdataOf, fixedOf, dataOf, size}
 use Rattle.rules.specs.Reading.{lowered, ordinaryKey, wildcardKey, isLo, momentEnd, behindLo, withLo, byFlag, resourceIn, locationIn, recordIn}
 use Rattle.rules.proofs.Tests.{pick-ok, tests, and-l, and-r}
 use Rattle.rules.proofs.Lists.{OnSome}
+use Rattle.rules.proofs.Numbers.{length-be}
 use Rattle.stream.specs.Seen.{ownerOf, goodKey}
 
 -- a resource record: whether it is a wildcard, and the lengths of its parts
@@ -91,3 +92,28 @@ shape (suc b ∷ key) rdata = resource-shape (suc b ∷ key) rdata
 
 pub shaped : (key rdata : List ℕ) (r : Record) → recordIn key rdata ≡ some r → Shape key rdata r
 shaped key rdata r e = rw e at (shape key rdata)
+
+-- ---- the size of a record is that of its bytes
+
+pub is-false : (b : Bool) → T (not b) → b ≡ false
+is-false true t = absurd t
+is-false false t = refl
+
+flag-length : (w : Bool) (lo : List ℕ) → length (flagAndLo w lo) ≡ suc (length lo)
+unfolding flagAndLo
+flag-length false [] = refl
+flag-length false (a ∷ lo) = refl
+flag-length true [] = refl
+flag-length true (a ∷ lo) = refl
+
+key-length : (w : Bool) (key : List ℕ) → T (goodKey w key) → length (unstarred (ownerOf w key)) ≡ length key
+unfolding unstarred ownerOf goodKey
+key-length true key g = unfold pick wild beginsWith in refl
+key-length false key g = unfold pick in rw (is-false (wild key) (unfold ordinaryKey in search tests))
+
+pub size-is : (key rdata : List ℕ) (r : Record) → Shape key rdata r → size r ≡ 8 + length key + length rdata
+unfolding size keyOf dataOf fixedOf rdataOf
+size-is key rdata (location prefix lo) s = omega (arith, ap length (s .0), ap length (s .1))
+size-is key rdata (resource owner type lo ttl time rd) s =
+    let k : length (unstarred owner) ≡ length key = ap (λ (o : List ℕ). length (unstarred o)) (s .owned) ∙ key-length (s .w) key (s .good) in
+    simp (length-append, length-be, flag-length, length-map) (omega (arith, s .long))
