@@ -6,3 +6,5 @@ pub mod Ranking
 pub mod KeyRanks
 pub mod Bests
 pub mod Picking
+pub mod Answering
+pub mod Asking

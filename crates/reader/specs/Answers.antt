@@ -8,7 +8,7 @@ use lib.Dec.{eqb}
 use Rattle.rules.specs.declared.replies.Reply.{Reply}
 use Rattle.rules.specs.Lists.{keep}
 use Rattle.rules.specs.Records.{Record, location, resource}
-use Rattle.rules.specs.Questions.{Placed, placedFrom, ofType}
+use Rattle.rules.specs.Questions.{Placed, placedFrom, visible, level, ofType}
 use Rattle.rules.specs.Reading.{replyOf}
 use Rattle.reader.specs.Ranks.{seenRank}
 
@@ -29,3 +29,8 @@ replyIn moment end (some (resource owner type lo ttl time rdata)) = replyOf mome
 -- the record of an ordinal among the wanted ones of records that begin at a place
 unfoldable pub pickedFrom : ℕ → List ℕ → List ℕ → ℕ → ℕ → ℕ → ℕ → List Record → Reply
 pickedFrom type name here moment best at ordinal rs = replyOf moment (getElem? (keep (λ p. wanted type name here moment best (p .rec)) (placedFrom at rs)) ordinal)
+
+-- the answer to a client who is here: level, then type, then ordinal
+unfoldable pub answeredFrom : ℕ → List ℕ → List ℕ → ℕ → ℕ → List Record → Reply
+answeredFrom type name here moment ordinal rs =
+    replyOf moment (getElem? (keep (λ p. ofType type (p .rec)) (level name (keep (λ p. visible here moment (p .rec)) (placedFrom 0 rs)))) ordinal)

@@ -5,9 +5,11 @@ ghost use mathlib.Core.List.{[], map};
 ghost use Prim.Native.Nat.{_≤_};
 ghost use lib.ListN.{length};
 ghost use Rattle.rules.specs.Lists.{lower, isSome, valueOr};
+ghost use Rattle.rules.specs.Names.{isWire};
 ghost use Rattle.rules.specs.Records.{loBytes};
 ghost use Rattle.rules.specs.Reading.{recordIn, decode};
-ghost use Rattle.reader.specs.Answers.{wantedIn, replyIn, pickedFrom};
+ghost use Rattle.reader.specs.Answers.{wantedIn, replyIn, pickedFrom, answeredFrom};
+use crate::level::best_rank;
 use crate::level::rank_in;
 use crate::view::lifetime;
 use rules::quantities::Lo;
@@ -115,4 +117,17 @@ pub fn pick_record(
         }
     }
     Reply::NoMore
+}
+
+// The answer of a stream of whole records to a client who is here.
+pub fn answer(stream: &[u8], name: &[u8], qtype: u16, here: Lo, moment: u64, ordinal: u64) -> Reply
+    requires { ⌜ isWire (now name) ≡ true ⌝ }
+    requires { ⌜ isSome (decode (now stream)) ≡ true ⌝ }
+    ensures { λ r. ⌜ r ≡ answeredFrom qtype (map lower (now (name .entry))) (loBytes here) moment ordinal (valueOr [] (decode (now (stream .entry)))) ⌝ }
+{
+    let best = best_rank(stream, name, here, moment);
+    if best == 0 {
+        return Reply::NoMore;
+    }
+    pick_record(stream, name, qtype, here, moment, best, ordinal)
 }
