@@ -2,13 +2,13 @@
 use mathlib.Core.Path.{_≡_, refl, ap, _∙_, sym}
 use mathlib.Core.Bool.{Bool, true, false, not, _&&_}
 use mathlib.Core.List.{List, [], _∷_, map}
-use Prim.Native.Nat.{ℕ, zero, suc, _+_, _<_, _≤_, max}
+use Prim.Native.Nat.{ℕ, zero, suc, _+_, _≤_, max}
 use native.Mathlib.Omega.{arith}
 use borrow.Author.Needs.{needs}
 use borrow.Author.Tests.{eq-eqb, ne-eqb}
 use mir.Facts.{yes-and, yes-leb}
 use lib.Arith.{lt→nleb}
-use lib.ListN.{length, getElem?, length-map}
+use lib.ListN.{length-map}
 use lib.Dec.{T, eqb, leb}
 use Rattle.rules.specs.declared.replies.Reply.{Reply}
 use Rattle.rules.specs.Lists.{pick, keep, lower}
@@ -17,7 +17,7 @@ use Rattle.rules.specs.Records.{Record}
 use Rattle.rules.specs.Bytes.{size}
 use Rattle.rules.specs.Questions.{Placed, placedFrom, visible, level, ofType}
 use Rattle.rules.specs.Reading.{replyOf}
-use Rattle.rules.proofs.Tests.{tests, and-l, and-r}
+use Rattle.rules.proofs.Tests.{tests}
 use Rattle.rules.proofs.Names.{Wire, wire-of, labels-of, short-of}
 use Rattle.rules.proofs.Decoding.{lower-fixed}
 use Rattle.reader.specs.Ranks.{rankOf, largest, chosen, seenRank}

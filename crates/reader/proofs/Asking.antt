@@ -1,14 +1,14 @@
 -- Asking: the refusals in their order, and the answer.
-use mathlib.Core.Path.{_≡_, refl, ap, _∙_, sym}
-use mathlib.Core.Bool.{Bool, true, false, not, _&&_, _||_}
+use mathlib.Core.Path.{_≡_, refl, _∙_, sym}
+use mathlib.Core.Bool.{Bool, true, false, not}
 use mathlib.Core.List.{List, [], _∷_, map}
 use mathlib.Core.Option.{Option, none, some}
-use Prim.Native.Nat.{ℕ, zero, suc, _+_, _<_, _≤_}
+use Prim.Native.Nat.{ℕ, _+_, _<_, _≤_}
 use native.Mathlib.Omega.{arith}
 use borrow.Author.Needs.{needs}
-use borrow.Author.Tests.{eq-eqb, ne-eqb, le-leb, lt-leb, not-true, not-false}
+use borrow.Author.Tests.{eq-eqb, ne-eqb, le-leb, lt-leb, not-false}
 use lib.ListN.{length}
-use lib.Dec.{eqb, leb}
+use lib.Dec.{eqb}
 use Rattle.rules.specs.declared.quantities.Lo.{Lo}
 use Rattle.rules.specs.declared.replies.Reply.{Reply}
 use Rattle.rules.specs.declared.replies.AskFault.{AskFault}
@@ -17,7 +17,7 @@ use Rattle.rules.specs.Names.{isWire}
 use Rattle.rules.specs.Records.{Record, loBytes}
 use Rattle.rules.specs.Bytes.{size}
 use Rattle.rules.specs.Questions.{Question, Placed, placedFrom, locationOf, answers}
-use Rattle.rules.specs.Reading.{momentEnd, isClient, decode, replyOf, replyFrom, replyDecoded, askReply}
+use Rattle.rules.specs.Reading.{momentEnd, isClient, decode, replyFrom, replyDecoded, askReply}
 use Rattle.reader.specs.declared.locate.Judged.{Judged}
 use Rattle.reader.specs.Locations.{locatedIn, judgedLo}
 use Rattle.reader.specs.Answers.{answeredFrom}

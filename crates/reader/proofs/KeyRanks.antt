@@ -3,12 +3,12 @@ use mathlib.Core.Path.{_≡_, refl, ap, _∙_, sym}
 use mathlib.Core.Bool.{Bool, true, false, not, _&&_, _||_}
 use mathlib.Core.List.{List, [], _∷_, map}
 use mathlib.Core.Option.{Option, none, some}
-use Prim.Native.Nat.{ℕ, zero, suc, _+_}
+use Prim.Native.Nat.{ℕ}
 use native.Mathlib.Omega.{arith}
 use borrow.Author.Needs.{needs}
 use borrow.Author.Tests.{not-true, not-false}
 use lib.ListN.{length, drop}
-use lib.Dec.{T, eqb, leb}
+use lib.Dec.{T, leb}
 use Rattle.rules.specs.declared.quantities.Lo.{Lo}
 use Rattle.rules.specs.declared.quantities.Shared.{Shared}
 use Rattle.rules.specs.Lists.{pick, all, lower, sameBytes, beginsWith}
@@ -23,7 +23,7 @@ use Rattle.stream.specs.declared.record.Seen.{Seen}
 use Rattle.stream.specs.Seen.{ownerOf, goodKey, seenRecord}
 use Rattle.reader.specs.Views.{sharing}
 use Rattle.reader.specs.Ranks.{rankAmong, rankOf, among, keyRank, seenRank, rankIn}
-use Rattle.reader.proofs.Shapes.{FromKey, Shape, shape, shaped, is-false}
+use Rattle.reader.proofs.Shapes.{Shape, shape, shaped, is-false}
 
 -- ---- keys
 

@@ -1,19 +1,19 @@
 -- The pass that judges a stream and finds the client's location.
 use mathlib.Core.Path.{_≡_, refl, ap, _∙_, sym}
-use mathlib.Core.Bool.{Bool, true, false, not, _&&_, _||_, and-true, and-false}
+use mathlib.Core.Bool.{Bool, true, false, not, and-true, and-false}
 use mathlib.Core.List.{List, [], _∷_}
 use mathlib.Core.Option.{Option, none, some}
-use Prim.Native.Nat.{ℕ, zero, suc, _+_, _-_, _<_, _≤_}
+use Prim.Native.Nat.{ℕ, suc, _+_, _-_, _<_, _≤_}
 use native.Mathlib.Omega.{arith}
 use native.Mathlib.Numerals.{add-one}
 use borrow.Author.Needs.{needs}
 use borrow.Author.Tests.{eq-eqb, ne-eqb, le-leb, lt-leb, not-true, not-false}
 use lib.ListN.{length, take, drop, length-drop, drop-of-length-le}
-use lib.Dec.{eqb, leb}
+use lib.Dec.{eqb}
 use Rattle.rules.specs.declared.quantities.Lo.{Lo}
 use Rattle.rules.specs.declared.quantities.Shared.{Shared}
 use Rattle.rules.specs.Lists.{pick, beginsWith}
-use Rattle.rules.specs.Records.{Record, location, resource, loBytes}
+use Rattle.rules.specs.Records.{Record, location, loBytes}
 use Rattle.rules.specs.Questions.{matches, Best, better, bestOf, locationOf}
 use Rattle.rules.specs.Reading.{recordIn, ontoRecords, decode}
 use Rattle.wire.proofs.Parts.{tail-lent}

@@ -1,13 +1,13 @@
 -- The pass that picks the record of the answer.
 use mathlib.Core.Path.{_≡_, refl, ap, _∙_, sym}
-use mathlib.Core.Bool.{Bool, true, false, _&&_, _||_, and-false}
+use mathlib.Core.Bool.{Bool, true, false, _||_, and-false}
 use mathlib.Core.List.{List, [], _∷_}
 use mathlib.Core.Option.{Option, none, some}
 use Prim.Native.Nat.{ℕ, zero, suc, _+_, _-_, _<_, _≤_}
 use native.Mathlib.Omega.{arith}
 use borrow.Author.Needs.{needs}
 use borrow.Author.Tests.{eq-eqb, ne-eqb}
-use lib.ListN.{length, take, drop, getElem?, length-drop, drop-of-length-le}
+use lib.ListN.{length, take, drop, length-drop, drop-of-length-le}
 use lib.Seq.{length-take-le}
 use lib.Dec.{eqb}
 use Rattle.rules.specs.declared.quantities.Lo.{Lo}
@@ -17,7 +17,7 @@ use Rattle.rules.specs.declared.replies.Reply.{Reply}
 use Rattle.rules.specs.Lists.{pick, keep, isSome, valueOr}
 use Rattle.rules.specs.Records.{Record, location, resource, loBytes}
 use Rattle.rules.specs.Bytes.{size, rdataOf}
-use Rattle.rules.specs.Questions.{Placed, placedFrom, ofType, lifetimeOf}
+use Rattle.rules.specs.Questions.{placedFrom, ofType, lifetimeOf}
 use Rattle.rules.specs.Reading.{recordIn, decode, typeOf, replyOf}
 use Rattle.stream.specs.declared.head.Span.{Span}
 use Rattle.stream.specs.declared.record.Seen.{Seen}

@@ -1,28 +1,18 @@
 -- The rank of a record from its key, and the loop over a name's ancestors.
-use mathlib.Core.Path.{_≡_, refl, ap, _∙_, sym}
-use mathlib.Core.Bool.{Bool, true, false, not, _&&_, _||_}
+use mathlib.Core.Path.{_≡_, refl, _∙_, sym}
+use mathlib.Core.Bool.{Bool, true, false, _||_}
 use mathlib.Core.List.{List, [], _∷_, map}
 use Prim.Native.Nat.{ℕ, zero, suc, _+_, _-_, _<_, _≤_}
 use native.Mathlib.Omega.{arith}
-use native.Mathlib.Numerals.{add-one}
 use borrow.Author.Needs.{needs}
 use lib.ListN.{length, getD, take, drop, length-map, length-drop, drop-of-length-le, List·getD-map}
 use lib.Seq.{drop-drop}
-use lib.Dec.{T, eqb, leb}
-use Rattle.rules.specs.Lists.{pick, all, lower, sameBytes, beginsWith}
-use Rattle.rules.specs.Records.{Record, resource}
-use Rattle.rules.specs.Bytes.{wild}
-use Rattle.rules.specs.Questions.{ordinaryOf, wildcardOf, ancestorsFrom, ancestors}
-use Rattle.rules.specs.Reading.{lowered, ordinaryKey, wildcardKey}
-use Rattle.rules.proofs.Tests.{tests, and-l, and-r}
-use Rattle.rules.proofs.Lists.{same-length}
-use Rattle.rules.proofs.Decoding.{lower-fixed}
+use Rattle.rules.specs.Lists.{pick, lower, sameBytes}
+use Rattle.rules.specs.Questions.{ancestorsFrom, ancestors}
 use Rattle.wire.proofs.Steps.{left-at}
 use Rattle.wire.proofs.Parts.{tail-lent}
 use Rattle.wire.proofs.Compare.{other-length}
-use Rattle.stream.specs.Seen.{ownerOf, goodKey}
-use Rattle.reader.specs.Ranks.{rankAmong, rankOf, among, keyRank}
-use Rattle.reader.proofs.Shapes.{FromKey}
+use Rattle.reader.specs.Ranks.{among}
 
 -- ---- the ancestors of a name, label by label
 

@@ -1,18 +1,17 @@
 -- What a record says of the key and the data that it was read from.
-use mathlib.Core.Path.{_≡_, refl, ap, _∙_, sym}
+use mathlib.Core.Path.{_≡_, refl, ap, _∙_}
 use mathlib.Core.Bool.{Bool, true, false, not, _&&_}
-use mathlib.Core.List.{List, [], _∷_, _++_, map}
-use mathlib.Core.Option.{Option, none, some}
-use Prim.Native.Nat.{ℕ, zero, suc, _+_, _<_, _≤_}
+use mathlib.Core.List.{List, [], _∷_}
+use mathlib.Core.Option.{some}
+use Prim.Native.Nat.{ℕ, zero, suc, _+_, _≤_}
 use native.Mathlib.Omega.{arith}
 use lib.ListN.{length, take, drop, length-append, length-map, length-drop}
-use lib.Dec.{T, eqb, leb, ltb}
-use Rattle.rules.specs.Lists.{pick, lower, fromBE, beginsWith}
-use Rattle.rules.specs.Fields.{largestTtl}
+use lib.Dec.{T, eqb, leb}
+use Rattle.rules.specs.Lists.{pick, fromBE, beginsWith}
 use Rattle.rules.specs.Records.{Record, location, resource}
 use Rattle.rules.specs.Bytes.{wild, unstarred, keyOf, flagAndLo, rdataOf, fixedOf, dataOf, size}
-use Rattle.rules.specs.Reading.{lowered, ordinaryKey, wildcardKey, isLo, momentEnd, behindLo, withLo, byFlag, resourceIn, locationIn, recordIn}
-use Rattle.rules.proofs.Tests.{pick-ok, tests, and-l, and-r}
+use Rattle.rules.specs.Reading.{ordinaryKey, wildcardKey, isLo, behindLo, withLo, byFlag, resourceIn, locationIn, recordIn}
+use Rattle.rules.proofs.Tests.{pick-ok, tests}
 use Rattle.rules.proofs.Lists.{OnSome}
 use Rattle.rules.proofs.Numbers.{length-be}
 use Rattle.stream.specs.Seen.{ownerOf, goodKey}

@@ -1,18 +1,18 @@
 -- Visibility and lifetime, test by test.
 use mathlib.Core.Path.{_≡_, refl, ap, _∙_, sym}
-use mathlib.Core.Bool.{Bool, true, false, not, _&&_, _||_, and-true}
-use mathlib.Core.List.{List, [], _∷_}
-use Prim.Native.Nat.{ℕ, zero, suc, _+_, _-_, _<_, _≤_, min, max}
+use mathlib.Core.Bool.{Bool, true, false, not, _||_, and-true}
+use mathlib.Core.List.{List, []}
+use Prim.Native.Nat.{ℕ, zero, suc, _-_, _<_, _≤_, min, max}
 use native.Mathlib.Omega.{arith}
 use borrow.Author.Needs.{needs}
-use borrow.Author.Tests.{eq-eqb, ne-eqb, le-leb, lt-leb, not-true, not-false}
+use borrow.Author.Tests.{eq-eqb, ne-eqb, not-true, not-false}
 use lib.ListN.{length}
 use lib.Dec.{eqb, leb, ltb}
 use Rattle.rules.specs.declared.quantities.Lo.{Lo}
 use Rattle.rules.specs.declared.quantities.Shared.{Shared}
 use Rattle.rules.specs.declared.quantities.Ttl.{Ttl}
 use Rattle.rules.specs.Lists.{pick, sameBytes}
-use Rattle.rules.specs.Records.{Record, resource, loBytes}
+use Rattle.rules.specs.Records.{resource, loBytes}
 use Rattle.rules.specs.Questions.{inTime, visible, lifetimeOf}
 use Rattle.reader.specs.Views.{sharing}
 

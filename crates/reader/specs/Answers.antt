@@ -8,7 +8,7 @@ use lib.Dec.{eqb}
 use Rattle.rules.specs.declared.replies.Reply.{Reply}
 use Rattle.rules.specs.Lists.{keep}
 use Rattle.rules.specs.Records.{Record, location, resource}
-use Rattle.rules.specs.Questions.{Placed, placedFrom, visible, level, ofType}
+use Rattle.rules.specs.Questions.{placedFrom, visible, level, ofType}
 use Rattle.rules.specs.Reading.{replyOf}
 use Rattle.reader.specs.Ranks.{seenRank}
 

@@ -1,6 +1,6 @@
 -- The client's location over a stream that may not be whole records.
 use Prim.Native.Nat.{ℕ}
-use mathlib.Core.List.{List, []}
+use mathlib.Core.List.{List}
 use mathlib.Core.Option.{Option, none, some}
 use Rattle.rules.specs.Records.{Record, loBytes}
 use Rattle.rules.specs.Questions.{Best, better, bestOf, locationOf}

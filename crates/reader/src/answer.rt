@@ -19,7 +19,7 @@ use stream::record::Seen;
 use stream::record::record_in;
 
 // Whether a record is of the level and of the type asked for, 255 for any.
-pub fn is_wanted(
+fn is_wanted(
     name: &[u8],
     qtype: u16,
     here: Lo,
@@ -51,7 +51,7 @@ pub fn is_wanted(
 }
 
 // What is answered of a record that ends at a place.
-pub fn reply_in(moment: u64, end: usize, key: &[u8], rdata: &[u8]) -> Reply
+fn reply_in(moment: u64, end: usize, key: &[u8], rdata: &[u8]) -> Reply
     requires { ⌜ length (now rdata) ≤ end ⌝ }
     ensures { λ r. ⌜ r ≡ replyIn moment end (recordIn (now (key .entry)) (now (rdata .entry))) ⌝ }
 {
@@ -78,7 +78,7 @@ pub fn reply_in(moment: u64, end: usize, key: &[u8], rdata: &[u8]) -> Reply
 }
 
 // The record of this ordinal, from 0, among those of a rank and a type in a stream of whole records.
-pub fn pick_record(
+fn pick_record(
     stream: &[u8],
     name: &[u8],
     qtype: u16,

@@ -54,7 +54,7 @@ fn is_related(name: &[u8], key: &[u8]) -> bool
 }
 
 // 256 for an ordinary record of the name, the key's length for a wildcard of an ancestor, else 0.
-pub fn rank(name: &[u8], key: &[u8], wild: bool) -> usize
+fn rank(name: &[u8], key: &[u8], wild: bool) -> usize
     ensures { λ r. ⌜ r ≡ keyRank (map lower (now (name .entry))) (now (key .entry)) wild ⌝ }
 {
     if wild {

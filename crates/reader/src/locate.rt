@@ -11,7 +11,7 @@ use stream::record::record_in;
 use wire::get::begins_with;
 
 // The location of the longest prefix so far, and how long a better prefix is at least; or that a record is malformed.
-pub enum Located {
+enum Located {
     Broken,
     Best { lo: Lo, least: usize },
 }
@@ -23,7 +23,7 @@ pub enum Judged {
 }
 
 // Whether a client is in a prefix. Only one of 4 bytes can be in any but the empty prefix.
-pub fn matches(client: &[u8], prefix: &[u8]) -> bool
+fn matches(client: &[u8], prefix: &[u8]) -> bool
     ensures { λ r. ⌜ r ≡ matches (now (client .entry)) (now (prefix .entry)) ⌝ }
 {
     if client.len() != 4 {
@@ -33,7 +33,7 @@ pub fn matches(client: &[u8], prefix: &[u8]) -> bool
 }
 
 // The better of the location so far and that of one record.
-pub fn better_in(client: &[u8], lo: Lo, least: usize, key: &[u8], rdata: &[u8]) -> Located
+fn better_in(client: &[u8], lo: Lo, least: usize, key: &[u8], rdata: &[u8]) -> Located
     ensures { λ r. ⌜ bestSeen r ≡ betterIn (now (client .entry)) (record { lo = loBytes lo; atLeast = least }) (recordIn (now (key .entry)) (now (rdata .entry))) ⌝ }
 {
     match record_in(key, rdata) {

@@ -1,5 +1,5 @@
 -- The head of a record, and a stream as its first record and the rest.
-use mathlib.Core.Path.{_≡_, refl, ap, ap₂, _∙_, sym}
+use mathlib.Core.Path.{_≡_, refl, ap, _∙_, sym}
 use mathlib.Core.Bool.{Bool, true, false, _&&_}
 use mathlib.Core.List.{List, [], _∷_}
 use mathlib.Core.Option.{Option, none, some}
@@ -9,13 +9,12 @@ use borrow.Author.Needs.{needs}
 use borrow.Author.Tests.{le-leb, lt-leb, leb-true, leb-false}
 use lib.Dec.{leb}
 use lib.ListN.{length, take, drop, length-drop}
-use lib.Seq.{drop-drop, take-take}
+use lib.Seq.{drop-drop}
 use Rattle.rules.specs.Lists.{pick, fromLE}
 use Rattle.rules.specs.Records.{Record}
 use Rattle.rules.specs.Reading.{recordIn, ontoRecords, decodeOne, decodeFrom, decode}
 use Rattle.stream.proofs.Labels.{leb-is}
 use Rattle.stream.specs.Heads.{keyLength, dataLength, sizeAt, fits, headOf, keyAt, dataAt, recordAt}
-use Rattle.stream.specs.declared.head.Head.{Head}
 use Rattle.stream.specs.declared.head.Head.the-variants.{Whole, Broken}
 
 both-right : (a b : Bool) → (a && b) ≡ true → b ≡ true

@@ -1,19 +1,19 @@
 -- The answers by flag, type and key, against the rules of reading.
-use mathlib.Core.Path.{_≡_, refl, ap, ap₂, _∙_, sym}
-use mathlib.Core.Bool.{Bool, true, false, not, _&&_}
+use mathlib.Core.Path.{_≡_, refl, ap, _∙_, sym}
+use mathlib.Core.Bool.{Bool, true, false, _&&_}
 use mathlib.Core.List.{List, [], _∷_}
-use mathlib.Core.Option.{Option, none, some}
-use Prim.Native.Nat.{ℕ, zero, suc, _+_, _*_, _-_, _<_, _≤_}
+use mathlib.Core.Option.{none, some}
+use Prim.Native.Nat.{ℕ, zero, suc, _+_, _*_, _<_, _≤_}
 use native.Mathlib.Omega.{arith}
 use borrow.Author.Needs.{needs}
 use borrow.Author.Tests.{eq-eqb, ne-eqb, le-leb, lt-leb}
-use lib.Dec.{eqb, leb, ltb}
+use lib.Dec.{leb, ltb}
 use lib.ListN.{length, take, drop, getD, length-drop}
 use lib.Seq.{drop-drop}
 use Rattle.rules.specs.declared.quantities.Lo.{Lo}
 use Rattle.rules.specs.Lists.{pick, fromBE}
 use Rattle.rules.specs.Fields.{largestTtl}
-use Rattle.rules.specs.Records.{Record, location, resource, loBytes}
+use Rattle.rules.specs.Records.{location, resource, loBytes}
 use Rattle.rules.specs.Reading.{isLo, momentEnd, behindLo, withLo, byFlag, resourceIn, locationIn, recordIn}
 use Rattle.rules.proofs.Tests.{pick-ok, tests}
 use Rattle.stream.specs.declared.record.Seen.{Seen}

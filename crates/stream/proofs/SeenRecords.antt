@@ -1,27 +1,23 @@
 -- What the code answers of one record means what the rules read.
-use mathlib.Core.Path.{_≡_, refl, ap, ap₂, _∙_, sym}
-use mathlib.Core.Bool.{Bool, true, false, not, _&&_, and-false}
+use mathlib.Core.Path.{_≡_, refl}
+use mathlib.Core.Bool.{Bool, true, false, not}
 use mathlib.Core.List.{List, [], _∷_}
-use mathlib.Core.Option.{Option, none, some}
-use Prim.Native.Nat.{ℕ, suc, _+_, _*_, _-_, _<_, _≤_}
+use Prim.Native.Nat.{ℕ, _-_, _<_, _≤_}
 use native.Mathlib.Omega.{arith}
 use borrow.Author.Needs.{needs}
-use borrow.Author.Tests.{eq-eqb, ne-eqb, le-leb, lt-leb, lt-ltb, le-ltb, not-true, not-false}
-use lib.Dec.{eqb, leb, ltb}
+use borrow.Author.Tests.{le-leb, lt-leb, lt-ltb, le-ltb, not-true, not-false}
 use lib.ListN.{length, take, drop, getD}
-use lib.Seq.{drop-drop}
 use Rattle.rules.specs.declared.quantities.Lo.{Lo}
 use Rattle.rules.specs.declared.quantities.Shared.{Shared}
 use Rattle.rules.specs.Lists.{pick, fromBE}
 use Rattle.rules.specs.Names.{isWire}
 use Rattle.rules.specs.Fields.{largestTtl}
 use Rattle.rules.specs.Bytes.{wild}
-use Rattle.rules.specs.Records.{Record, location, resource, loBytes}
-use Rattle.rules.specs.Reading.{lowered, ordinaryKey, wildcardKey, isLo, momentEnd, behindLo, withLo, byFlag, resourceIn, locationIn, recordIn}
+use Rattle.rules.specs.Reading.{lowered, ordinaryKey, wildcardKey, isLo, momentEnd}
 use Rattle.wire.proofs.Parts.{tail-lent}
 use Rattle.stream.specs.declared.record.Seen.{Seen}
 use Rattle.stream.specs.declared.record.Fields.{Fields}
-use Rattle.stream.specs.Seen.{ownerOf, goodKey, seenRecord, sharedIn, seenWith, plainIn, loIn, locatedIn}
+use Rattle.stream.specs.Seen.{goodKey, sharedIn, seenWith, plainIn, loIn, locatedIn}
 
 -- ---- the key
 

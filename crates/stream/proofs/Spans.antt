@@ -1,17 +1,15 @@
 -- The place of a record in its stream, from the head of what is left.
 use mathlib.Core.Path.{_≡_, refl, ap, _∙_, sym}
-use mathlib.Core.Bool.{Bool, true, false}
-use mathlib.Core.List.{List, [], _∷_}
-use mathlib.Core.Option.{Option, none, some}
+use mathlib.Core.List.{List}
 use Prim.Native.Nat.{ℕ, _+_, _-_, _<_, _≤_}
 use native.Mathlib.Omega.{arith}
 use borrow.Author.Needs.{needs}
-use lib.ListN.{length, take, drop, length-drop, drop-of-length-le}
+use lib.ListN.{length, take, drop, length-drop}
 use lib.Seq.{drop-drop}
 use Rattle.rules.specs.Lists.{pick}
-use Rattle.rules.specs.Reading.{recordIn, ontoRecords, decode}
+use Rattle.rules.specs.Reading.{recordIn, ontoRecords}
 use Rattle.wire.proofs.Parts.{tail-lent}
-use Rattle.stream.specs.Heads.{keyLength, dataLength, sizeAt, fits, headOf, keyAt, dataAt, recordAt}
+use Rattle.stream.specs.Heads.{sizeAt, headOf, keyAt, dataAt, recordAt}
 use Rattle.stream.specs.Spans.{part, IsSpan}
 use Rattle.stream.specs.declared.head.Head.{Head}
 use Rattle.stream.specs.declared.head.Head.the-variants.{Whole, Broken}

@@ -1,16 +1,15 @@
 -- What the code answers of one record, and the record that it means.
-use Prim.Native.Nat.{ℕ, _+_}
-use mathlib.Core.Bool.{Bool, true, false, not, _&&_}
-use mathlib.Core.List.{List, [], _∷_}
+use Prim.Native.Nat.{ℕ}
+use mathlib.Core.Bool.{Bool, _&&_}
+use mathlib.Core.List.{List, _∷_}
 use mathlib.Core.Option.{Option, none, some}
 use lib.ListN.{length, take, drop, getD}
 use lib.Dec.{leb, ltb}
 use Rattle.rules.specs.declared.quantities.Lo.{Lo}
-use Rattle.rules.specs.declared.quantities.Shared.{Shared}
 use Rattle.rules.specs.Lists.{pick, fromBE}
 use Rattle.rules.specs.Fields.{largestTtl}
 use Rattle.rules.specs.Records.{Record, location, resource, loBytes}
-use Rattle.rules.specs.Reading.{ordinaryKey, wildcardKey, isLo, momentEnd, behindLo}
+use Rattle.rules.specs.Reading.{ordinaryKey, wildcardKey, isLo, momentEnd}
 use Rattle.stream.specs.declared.record.Seen.{Seen}
 use Rattle.stream.specs.declared.record.Fields.{Fields}
 
