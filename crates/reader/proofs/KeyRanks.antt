@@ -34,10 +34,6 @@ lowered-same (b ∷ key) t =
     let h : lower b ≡ b = lower-fixed b (and-l (not (leb 65 b && leb b 90)) (lowered key) t) in
     rw (h, lowered-same key (and-r (not (leb 65 b && leb b 90)) (lowered key) t))
 
-is-true : (b : Bool) → T b → b ≡ true
-is-true true t = refl
-is-true false t = absurd t
-
 module _ (key : List ℕ) (g : T (ordinaryKey key)) where
   ordinary-lowered : map lower key ≡ key
   ordinary-lowered = lowered-same key (unfold ordinaryKey in search tests)
