@@ -69,7 +69,7 @@ fn rank(name: &[u8], key: &[u8], wild: bool) -> usize
     0
 }
 
-// The rank of a record for a client who is here at a moment, 0 if he doesn't see it. The key alone rules most records out.
+// The rank of a record that a client who is here sees at a moment, 0 for any other. The key alone rules most records out.
 pub fn rank_in(name: &[u8], here: Lo, moment: u64, key: &[u8], rdata: &[u8]) -> usize
     ensures { λ r. ⌜ r ≡ rankIn (map lower (now (name .entry))) (loBytes here) moment (recordIn (now (key .entry)) (now (rdata .entry))) ⌝ }
 {

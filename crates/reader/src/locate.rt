@@ -60,6 +60,7 @@ fn better_in(client: &[u8], lo: Lo, least: usize, key: &[u8], rdata: &[u8]) -> L
     }
 }
 
+// Every record is read, also behind the last location: a stream is judged whole before anything of it is answered.
 pub fn judge_and_locate(stream: &[u8], client: &[u8]) -> Judged
     ensures { λ r. ⌜ judgedLo r ≡ locatedIn (now (client .entry)) (decode (now (stream .entry))) ⌝ }
 {

@@ -42,6 +42,7 @@ fn in_time(moment: u64, ttl: u32, time: u64) -> bool
     time <= moment
 }
 
+// Whether a client who is here sees a record at a moment.
 pub fn visible(here: Lo, moment: u64, shared: Shared) -> bool
     ensures { λ r. ⌜ r ≡ visible (loBytes here) moment (sharing shared) ⌝ }
 {

@@ -69,6 +69,7 @@ pub fn is_wild(key: &[u8]) -> bool
     key[1] == 42
 }
 
+// Whether a byte is an ASCII letter.
 pub fn is_letter(b: u8) -> bool
     ensures { λ r. ⌜ r ≡ letter b ⌝ }
 {

@@ -133,6 +133,7 @@ fn by_flag(key: &[u8], rdata: &[u8], rtype: u16) -> Seen
     }
 }
 
+// A record with an owner: its data begin with the type and the flag.
 fn resource_in(key: &[u8], rdata: &[u8]) -> Seen
     ensures { λ r. ⌜ seenRecord (now (key .entry)) (now (rdata .entry)) r ≡ resourceIn (now (key .entry)) (now (rdata .entry)) ⌝ }
     ensures { λ r. ⌜ fixedIn r ≤ length (now (rdata .entry)) ⌝ }

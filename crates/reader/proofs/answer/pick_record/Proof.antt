@@ -1,11 +1,10 @@
 use Prim.Native.Nat.{_-_, _≤_}
 use mathlib.Core.Path.{_≡_}
-use mathlib.Core.List.{[]}
+use mathlib.Core.List.{[], map}
 use lib.ListN.{length, drop}
 use Rattle.rules.specs.Records.{loBytes}
 use Rattle.rules.specs.Reading.{decode}
 use mathlib.Core.Bool.{true}
-use mathlib.Core.List.{map}
 use Rattle.rules.specs.Lists.{lower, isSome, valueOr}
 use Rattle.reader.specs.Answers.{pickedFrom}
 use Rattle.reader.proofs.Picking.{pick·laws}

@@ -1,12 +1,10 @@
-use Prim.Native.Nat.{_-_, _≤_}
+use Prim.Native.Nat.{_-_, _≤_, max}
 use mathlib.Core.Path.{_≡_}
-use mathlib.Core.List.{[]}
+use mathlib.Core.List.{[], map}
 use lib.ListN.{length, drop}
 use Rattle.rules.specs.Records.{loBytes}
 use Rattle.rules.specs.Reading.{decode}
-use Prim.Native.Nat.{max}
 use mathlib.Core.Bool.{true}
-use mathlib.Core.List.{map}
 use Rattle.rules.specs.Lists.{lower, isSome, valueOr}
 use Rattle.reader.specs.Ranks.{largest, seenRank}
 use Rattle.reader.proofs.Bests.{best·laws}
