@@ -1,4 +1,5 @@
 // A good line's records written into the front of a lent buffer.
 pub mod hosts;
 pub mod names;
+pub mod singles;
 pub mod values;
