@@ -3,5 +3,6 @@ pub mod alone;
 pub mod hosts;
 pub mod names;
 pub mod services;
+pub mod singles;
 pub mod values;
 pub mod zones;
