@@ -157,6 +157,14 @@ pub ruleset kind·laws = (needs, row-most, unknown, too-many, spans-of, field-fi
 
 -- ---- a line
 
+-- the kind byte and the rest
+pub parted-line : (line : List ℕ) (n : ℕ) → (n ≡ 0 → ⊥) → n ≤ length line → take n line ≡ getD line 0 0 ∷ take (n - 1) (drop 1 line)
+parted-line line zero some h = absurd (some refl)
+parted-line [] (suc n) some h = absurd (omega arith)
+parted-line (b ∷ line) (suc n) some h =
+    let e : suc n - 1 ≡ n = omega arith in
+    rw e
+
 module _ (line : List ℕ) where
   pub too-long : 1024 < length line → record { fault = Fault.LineTooLong; field = 0 } ≡ lineFault line
   unfolding lineFault wholeLine longestLine pick
@@ -172,14 +180,8 @@ module _ (line : List ℕ) where
     nothing-left z = sym (stripped-is ∙ rw z)
 
     module _ (some : n ≡ 0 → ⊥) where
-      -- the kind byte and the rest
       parted : take n line ≡ getD line 0 0 ∷ take (n - 1) (drop 1 line)
-      parted = by line n some (omega (arith, p .most))
-        where
-          by : (l : List ℕ) (m : ℕ) → (m ≡ 0 → ⊥) → m ≤ length l → take m l ≡ getD l 0 0 ∷ take (m - 1) (drop 1 l)
-          by l zero s k = absurd (s refl)
-          by [] (suc m) s k = absurd (omega arith)
-          by (b ∷ l) (suc m) s k = let e : suc m - 1 ≡ m = omega arith in rw e
+      parted = parted-line line n some (p .most)
 
       pub comment : (t : Bool) → t ≡ ignored (getD line 0 0) → t ≡ true → record { fault = Fault.Done; field = 0 } ≡ lineFault line
       unfolding strippedFault noFault pick

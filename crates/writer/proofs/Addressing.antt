@@ -55,7 +55,7 @@ module _ (shared : Shared) (owner : List ℕ) (a : AddressRead) (h : IsHeld a) w
     address-put d f r p = rw (one-address there, ← e) p
 
     pub address-room : (n : ℕ) → length (bytesOf (addressRecords shared owner (heldAddress a))) ≤ n → headSize shared owner + length (take (a .len) (a .bytes)) ≤ n
-    address-room n k = omega (arith, ap length (one-address there), encode-length (resourceOf shared owner (pick (eqb (a .len) 4) 1 28) (heldAddress a)), resource-size shared owner (pick (eqb (a .len) 4) 1 28) (heldAddress a))
+    address-room n k = omega (arith, ap length (one-address there), encode-length (resourceOf shared owner (pick (eqb (a .len) 4) 1 28) (heldAddress a)), resource-size shared owner (pick (eqb (a .len) 4) 1 28) (length (heldAddress a)) (heldAddress a) refl)
 
 pub four : (n : ℕ) → n ≡ 4 → _≡_ {A = ℕ} 1 (pick (eqb n 4) 1 28)
 unfolding pick

@@ -1,6 +1,7 @@
 pub mod AddressLines
 pub mod Addressing
 pub mod Holding
+pub mod ByKind
 pub mod HostRecords
 pub mod OneAuthority
 pub mod OneRecord

@@ -47,9 +47,9 @@ module _ (s : List ℕ) (shared : Shared) (owner mname rname : Name) (numbers : 
   soa-is : encode (resourceOf shared (take (owner .len) (owner .bytes)) 6 (soaOf (take (mname .len) (mname .bytes)) (take (rname .len) (rname .bytes)) numbers))
       ≡ encode (resourceOf shared (heldName owner) 6 (soaOf (wireOf (fieldAt (splitOn 58 s) 1)) (wireOf (fieldAt (splitOn 58 s) 2)) numbers))
   soa-is =
-      let o : take (owner .len) (owner .bytes) ≡ heldName owner = unfold heldName in refl in
-      let p : take (mname .len) (mname .bytes) ≡ wireOf (fieldAt (splitOn 58 s) 1) = unfold heldName in m .held in
-      let q : take (rname .len) (rname .bytes) ≡ wireOf (fieldAt (splitOn 58 s) 2) = unfold heldName in k .held in
+      let o : take (owner .len) (owner .bytes) ≡ heldName owner = refl in
+      let p : take (mname .len) (mname .bytes) ≡ wireOf (fieldAt (splitOn 58 s) 1) = m .held in
+      let q : take (rname .len) (rname .bytes) ≡ wireOf (fieldAt (splitOn 58 s) 2) = k .held in
       rw (o, p, q)
 
   pub soa-room : (n : ℕ)

@@ -68,7 +68,7 @@ module _ (name : Name) (w : List ℕ) (h : IsName w name) where
 pub record-room : (shared : Shared) (owner : List ℕ) (type : ℕ) (rdata x : List ℕ) (n : ℕ) → encode (resourceOf shared owner type rdata) ≡ x → length x ≤ n
     → headSize shared owner + length rdata ≤ n
 record-room shared owner type rdata x n e h =
-    omega (arith, ap length e, encode-length (resourceOf shared owner type rdata), resource-size shared owner type rdata)
+    omega (arith, ap length e, encode-length (resourceOf shared owner type rdata), resource-size shared owner type (length rdata) rdata refl)
 
 pub one : (r : Record) → bytesOf (r ∷ []) ≡ encode r
 unfolding bytesOf joinAll
@@ -81,8 +81,8 @@ module _ (s : List ℕ) (kind : Kind) (shared : Shared) (owner target : Name) (t
   target-is : encode (resourceOf shared (take (owner .len) (owner .bytes)) type (take (target .len) (target .bytes)))
       ≡ encode (resourceOf (sharedOf kind (splitOn 58 s)) (wireOf (fieldAt (splitOn 58 s) 0)) type (wireOf (fieldAt (splitOn 58 s) 1)))
   target-is =
-      let o : take (owner .len) (owner .bytes) ≡ wireOf (fieldAt (splitOn 58 s) 0) = unfold heldName in b .held in
-      let d : take (target .len) (target .bytes) ≡ wireOf (fieldAt (splitOn 58 s) 1) = unfold heldName in t .held in
+      let o : take (owner .len) (owner .bytes) ≡ wireOf (fieldAt (splitOn 58 s) 0) = b .held in
+      let d : take (target .len) (target .bytes) ≡ wireOf (fieldAt (splitOn 58 s) 1) = t .held in
       rw (a, o, d)
 
   pub target-room : (n : ℕ) → length (encode (resourceOf (sharedOf kind (splitOn 58 s)) (wireOf (fieldAt (splitOn 58 s) 0)) type (wireOf (fieldAt (splitOn 58 s) 1)))) ≤ n

@@ -106,7 +106,7 @@ module _ (s : List ℕ) (shared : Shared) (owner : Name) (text : PlainText)
   text-is : encode (resourceOf shared (take (owner .len) (owner .bytes)) 16 (chunks (take (text .len) (text .bytes)))) ≡ bytesOf (recordsOf 0 Kind.Text (splitOn 58 s))
   unfolding recordsOf
   text-is =
-      let o : take (owner .len) (owner .bytes) ≡ wireOf (fieldAt (splitOn 58 s) 0) = unfold heldName in b .held in
+      let o : take (owner .len) (owner .bytes) ≡ wireOf (fieldAt (splitOn 58 s) 0) = b .held in
       rw (a, o, t) (sym (one _))
 
   pub text-room : (n : ℕ) → length (bytesOf (recordsOf 0 Kind.Text (splitOn 58 s))) ≤ n
@@ -125,7 +125,7 @@ module _ (s : List ℕ) (shared : Shared) (owner : Name) (type : ℕ) (rdata : P
   generic-is : encode (resourceOf shared (take (owner .len) (owner .bytes)) type (take (rdata .len) (rdata .bytes))) ≡ bytesOf (recordsOf 0 Kind.Generic (splitOn 58 s))
   unfolding recordsOf
   generic-is =
-      let o : take (owner .len) (owner .bytes) ≡ wireOf (fieldAt (splitOn 58 s) 0) = unfold heldName in b .held in
+      let o : take (owner .len) (owner .bytes) ≡ wireOf (fieldAt (splitOn 58 s) 0) = b .held in
       rw (a, o, n, t) (sym (one _))
 
   pub generic-room : (m : ℕ) → length (bytesOf (recordsOf 0 Kind.Generic (splitOn 58 s))) ≤ m

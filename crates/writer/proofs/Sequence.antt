@@ -40,6 +40,6 @@ only r d e a p = rw (append-nil (encode r)) p
 module _ (shared : Shared) (owner : List ℕ) (type : ℕ) (rs : List Record) (n : ℕ) where
   pub first-fits : (rdata : List ℕ) → length (bytesOf (resourceOf shared owner type rdata ∷ rs)) ≤ n → headSize shared owner + length rdata ≤ n
   first-fits rdata h =
-      omega (arith, ap length (bytes-cons (resourceOf shared owner type rdata) rs), length-append (encode (resourceOf shared owner type rdata)) (bytesOf rs), encode-length (resourceOf shared owner type rdata), resource-size shared owner type rdata)
+      omega (arith, ap length (bytes-cons (resourceOf shared owner type rdata) rs), length-append (encode (resourceOf shared owner type rdata)) (bytesOf rs), encode-length (resourceOf shared owner type rdata), resource-size shared owner type (length rdata) rdata refl)
 
 pub ruleset sequence·laws = (needs, front-count, rest-fits, rest-starts, rest-put, first-fits)

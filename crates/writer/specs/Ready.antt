@@ -84,3 +84,8 @@ serviceRecords h priority weight port =
 abbrev pub zoneRecords : ℕ → HostLine → List Record
 zoneRecords serial h =
     resourceOf (soaShared (h .shared)) (heldName (h .owner)) 6 (soaData (heldName (h .host)) (contactOf (heldName (h .owner))) serial 16384 2048 1048576 2560) ∷ hostRecords h 2 []
+
+-- what stands behind the kind byte of a good line
+pub record GoodRest (kind : Kind) (s : List ℕ) : Type 0 where
+  pub short : length s ≤ 1024
+  pub good : T (isDone (kindFault kind (splitOn 58 s) .fault))

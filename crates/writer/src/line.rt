@@ -1,0 +1,78 @@
+// One line's records, by its kind.
+ghost use mathlib.Core.Path.{_≡_};
+ghost use mathlib.Core.Bool.{true};
+ghost use Prim.Native.Nat.{_≤_};
+ghost use lib.ListN.{length};
+ghost use Rattle.rules.specs.Lists.{splitOn};
+ghost use Rattle.rules.specs.Records.{recordsOf};
+ghost use Rattle.rules.specs.Bytes.{bytesOf};
+ghost use Rattle.rules.specs.Answers.{isGood, lineRecords};
+ghost use Rattle.wire.specs.Put.{IsPut};
+ghost use Rattle.writer.specs.Ready.{Ready, GoodRest};
+use crate::alone::put_alias_line;
+use crate::alone::put_host_line;
+use crate::services::put_mail_line;
+use crate::services::put_service_line;
+use crate::singles::put_authority_line;
+use crate::singles::put_canonical_line;
+use crate::singles::put_generic_line;
+use crate::singles::put_location_line;
+use crate::singles::put_pointer_line;
+use crate::singles::put_text_line;
+use crate::zones::put_delegation_line;
+use crate::zones::put_zone_line;
+use lines::judge::is_ignored;
+use lines::kinds::kind_of;
+use lines::kinds::row_of;
+use lines::splits::Span;
+use lines::splits::split;
+use lines::strips::stripped;
+use rules::kinds::Kind;
+
+fn put_kind(out: &mut [u8], rest: &[u8], spans: [Span; 11], kind: Kind, serial: u32) -> usize
+    requires { ⌜ Ready kind (now rest) spans × (length (bytesOf (recordsOf serial kind (splitOn 58 (now rest)))) ≤ length (now out)) ⌝ }
+    ensures { λ r. ⌜ IsPut (bytesOf (recordsOf serial kind (splitOn 58 (now (rest .entry))))) (now (out .entry)) (now (out .exit)) r ⌝ }
+{
+    match kind {
+        Kind::Location => put_location_line(out, rest, spans),
+        Kind::Zone => put_zone_line(out, rest, spans, serial),
+        Kind::Delegation => put_delegation_line(out, rest, spans),
+        Kind::Host => put_host_line(out, rest, spans),
+        Kind::Alias => put_alias_line(out, rest, spans),
+        Kind::Mail => put_mail_line(out, rest, spans),
+        Kind::Service => put_service_line(out, rest, spans),
+        Kind::Text => put_text_line(out, rest, spans),
+        Kind::Pointer => put_pointer_line(out, rest, spans),
+        Kind::Canonical => put_canonical_line(out, rest, spans),
+        Kind::Authority => put_authority_line(out, rest, spans, serial),
+        Kind::Generic => put_generic_line(out, rest, spans),
+        Kind::Unknown => 0,
+    }
+}
+
+// What stands behind the kind byte.
+fn put_rest(out: &mut [u8], rest: &[u8], kind: Kind, serial: u32) -> usize
+    requires { ⌜ GoodRest kind (now rest) × (length (bytesOf (recordsOf serial kind (splitOn 58 (now rest)))) ≤ length (now out)) ⌝ }
+    ensures { λ r. ⌜ IsPut (bytesOf (recordsOf serial kind (splitOn 58 (now (rest .entry))))) (now (out .entry)) (now (out .exit)) r ⌝ }
+{
+    let row = row_of(kind);
+    let count = row.count;
+    let fields = split(rest, count);
+    let spans = fields.spans;
+    put_kind(out, rest, spans, kind, serial)
+}
+
+pub fn put_line(out: &mut [u8], line: &[u8], serial: u32) -> usize
+    requires { ⌜ (isGood (now line) ≡ true) × (length (bytesOf (lineRecords serial (now line))) ≤ length (now out)) ⌝ }
+    ensures { λ r. ⌜ IsPut (bytesOf (lineRecords serial (now (line .entry)))) (now (out .entry)) (now (out .exit)) r ⌝ }
+{
+    let n = stripped(line);
+    if n == 0 {
+        return 0;
+    }
+    let first = line[0];
+    if is_ignored(first) {
+        return 0;
+    }
+    put_rest(out, &line[1..n], kind_of(first), serial)
+}
