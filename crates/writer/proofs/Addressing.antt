@@ -23,7 +23,7 @@ use Rattle.writer.specs.Held.{heldAddress, IsHeld}
 
 -- what is held is what the field says
 pub held-address : (t : List ℕ) (r : AddressRead) → IsAddress (addressOf t) r → heldAddress r ≡ addressIn t
-unfolding heldAddress addressIn
+unfolding addressIn
 held-address t r p = by (eqb (r .len) 0) refl ∙ ap (valueOr []) (p .says)
   where
     by : (b : Bool) → eqb (r .len) 0 ≡ b → take (r .len) (r .bytes) ≡ valueOr [] (addressRead r)
@@ -37,11 +37,10 @@ is-held t r p = record { few = p .few; long = p .long }
 
 module _ (shared : Shared) (owner : List ℕ) (a : AddressRead) (h : IsHeld a) where
   pub no-address : (d : List ℕ) → a .len ≡ 0 → IsPut (bytesOf (addressRecords shared owner (heldAddress a))) d d 0
-  unfolding bytesOf joinAll addressRecords heldAddress
+  unfolding bytesOf joinAll addressRecords
   no-address d z = rw z (record { count = refl; room = omega arith; holds = refl })
 
   held-length : length (heldAddress a) ≡ a .len
-  unfolding heldAddress
   held-length = length-take-le (a .len) (a .bytes) (omega (arith, h .few, h .long))
 
   one-address : (a .len ≡ 0 → ⊥) → bytesOf (addressRecords shared owner (heldAddress a)) ≡ encode (resourceOf shared owner (pick (eqb (a .len) 4) 1 28) (heldAddress a))
@@ -53,11 +52,9 @@ module _ (shared : Shared) (owner : List ℕ) (a : AddressRead) (h : IsHeld a) w
 
   module _ (type : ℕ) (there : a .len ≡ 0 → ⊥) (e : type ≡ pick (eqb (a .len) 4) 1 28) where
     pub address-put : (d f : List ℕ) (r : ℕ) → IsPut (encode (resourceOf shared owner type (take (a .len) (a .bytes)))) d f r → IsPut (bytesOf (addressRecords shared owner (heldAddress a))) d f r
-    unfolding heldAddress
     address-put d f r p = rw (one-address there, ← e) p
 
     pub address-room : (n : ℕ) → length (bytesOf (addressRecords shared owner (heldAddress a))) ≤ n → headSize shared owner + length (take (a .len) (a .bytes)) ≤ n
-    unfolding heldAddress
     address-room n k = omega (arith, ap length (one-address there), encode-length (resourceOf shared owner (pick (eqb (a .len) 4) 1 28) (heldAddress a)), resource-size shared owner (pick (eqb (a .len) 4) 1 28) (heldAddress a))
 
 pub four : (n : ℕ) → n ≡ 4 → _≡_ {A = ℕ} 1 (pick (eqb n 4) 1 28)

@@ -28,7 +28,6 @@ name-short t n h = omega (arith, wire-short (nameOf t) (name-ok t))
 
 -- bytes that were put at the front of an array of 255
 pub held-name : (w d e : List ℕ) (r : ℕ) → IsPut w d e r → length d ≡ 255 → IsName w (record { bytes = e; len = r })
-unfolding heldName
 held-name w d e r p h =
     record { held = front w d e r p; size = p .count; short = omega (arith, p .count, p .room); long = put-length w d e r p ∙ h }
 

@@ -1,4 +1,6 @@
 pub mod Addressing
 pub mod Holding
+pub mod HostRecords
 pub mod Readiness
+pub mod Sequence
 pub mod Valuing

@@ -54,11 +54,9 @@ pub ruleset address-of·laws = (needs, address-says, address-held)
 
 module _ (s t middle : List ℕ) (owner : Name) (e : t ≡ fieldAt (splitOn 58 s) 2) where
   pub host-good : HostGood (heldName owner) (fieldAt (splitOn 58 s) 2) middle → HostGood (take (owner .len) (owner .bytes)) t middle
-  unfolding heldName
   host-good h = rw e h
 
   pub host-held : (r : Name) → IsName (hostName middle (take (owner .len) (owner .bytes)) t) r → IsName (hostName middle (heldName owner) (fieldAt (splitOn 58 s) 2)) r
-  unfolding heldName
   host-held r h = rw (← e) h
 
 pub ruleset host-of·laws = (needs, front-count, host-good, host-held)

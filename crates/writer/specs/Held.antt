@@ -12,7 +12,7 @@ use Rattle.addresses.specs.declared.addresses.AddressRead.{AddressRead}
 use Rattle.writer.specs.declared.names.Name.{Name}
 
 -- the bytes of a name
-unfoldable pub heldName : Name → List ℕ
+abbrev pub heldName : Name → List ℕ
 heldName n = take (n .len) (n .bytes)
 
 pub record IsName (wire : List ℕ) (r : Name) : Type 0 where
@@ -29,7 +29,7 @@ pub record HostGood (owner x middle : List ℕ) : Type 0 where
   pub short : length (hostName middle owner x) ≤ 255
 
 -- an address that is held by value, of no bytes where there is none
-unfoldable pub heldAddress : AddressRead → List ℕ
+abbrev pub heldAddress : AddressRead → List ℕ
 heldAddress a = take (a .len) (a .bytes)
 
 pub record IsHeld (a : AddressRead) : Type 0 where

@@ -1,19 +1,22 @@
 -- A line that can be written: its fields are found, and it has no fault.
 use mathlib.Core.Path.{_≡_}
 use mathlib.Core.Bool.{Bool, true, false}
-use mathlib.Core.List.{List, []}
+use mathlib.Core.List.{List, [], _∷_, _++_}
 use Prim.Native.Nat.{ℕ, _≤_}
 use lib.ListN.{length}
 use lib.Dec.{T}
 use Rattle.rules.specs.Lists.{splitOn}
 use Rattle.rules.specs.Kinds.{fieldAt}
 use Rattle.rules.specs.Names.{wireOf}
-use Rattle.rules.specs.Records.{ns, mx, srv, sharedOf, hostName, addressIn}
+use Rattle.rules.specs.Records.{Record, ns, mx, srv, sharedOf, resourceOf, hostName, contactOf, soaData, soaShared, srvData, addressRecords, addressIn}
 use Rattle.rules.specs.Answers.{isDone, kindFault}
 use Rattle.rules.specs.declared.kinds.Kind.{Kind}
+use Rattle.rules.specs.declared.quantities.Port.{Port}
+use Rattle.rules.specs.declared.quantities.Priority.{Priority}
+use Rattle.rules.specs.declared.quantities.Weight.{Weight}
 use Rattle.lines.specs.Splits.{FieldsOf}
 use Rattle.lines.specs.declared.splits.Span.{Span}
-use Rattle.writer.specs.Held.{IsName, heldAddress, IsHeld}
+use Rattle.writer.specs.Held.{heldName, IsName, heldAddress, IsHeld}
 use Rattle.writer.specs.declared.hosts.HostLine.{HostLine}
 
 pub record Ready (kind : Kind) (s : List ℕ) (spans : List Span) : Type 0 where
@@ -60,3 +63,24 @@ pub record IsHostLine (kind : Kind) (s : List ℕ) (h : HostLine) : Type 0 where
   pub host : IsName (hostName (middleOf kind) (wireOf (fieldAt (splitOn 58 s) 0)) (fieldAt (splitOn 58 s) 2)) (h .host)
   pub address : heldAddress (h .address) ≡ addressIn (fieldAt (splitOn 58 s) 1)
   pub held : IsHeld (h .address)
+
+-- names and an address that can be lent
+pub record Lendable (h : HostLine) : Type 0 where
+  pub ownerShort : h .owner .len ≤ 255
+  pub ownerLong : length (h .owner .bytes) ≡ 255
+  pub hostShort : h .host .len ≤ 255
+  pub hostLong : length (h .host .bytes) ≡ 255
+  pub held : IsHeld (h .address)
+
+-- the records of such a line behind its SOA: a record that names the host behind some bytes, and the host's address
+abbrev pub hostRecords : HostLine → ℕ → List ℕ → List Record
+hostRecords h type before =
+    resourceOf (h .shared) (heldName (h .owner)) type (before ++ heldName (h .host)) ∷ addressRecords (h .shared) (heldName (h .host)) (heldAddress (h .address))
+
+abbrev pub serviceRecords : HostLine → Priority → Weight → Port → List Record
+serviceRecords h priority weight port =
+    resourceOf (h .shared) (heldName (h .owner)) 33 (srvData priority weight port (heldName (h .host))) ∷ addressRecords (h .shared) (heldName (h .host)) (heldAddress (h .address))
+
+abbrev pub zoneRecords : ℕ → HostLine → List Record
+zoneRecords serial h =
+    resourceOf (soaShared (h .shared)) (heldName (h .owner)) 6 (soaData (heldName (h .host)) (contactOf (heldName (h .owner))) serial 16384 2048 1048576 2560) ∷ hostRecords h 2 []

@@ -2,3 +2,4 @@
 pub mod hosts;
 pub mod names;
 pub mod values;
+pub mod zones;
