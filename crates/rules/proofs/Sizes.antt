@@ -2,13 +2,13 @@
 use mathlib.Core.Path.{_≡_}
 use Prim.Native.Nat.{ℕ, _+_, _*_, _≤_}
 use native.Mathlib.Omega.{arith}
-use mathlib.Core.Bool.{Bool, true, false}
+use mathlib.Core.Bool.{true}
 use mathlib.Core.List.{List, [], _∷_, _++_}
 use lib.ListN.{length, length-append}
 use lib.Dec.{T}
 use Rattle.rules.specs.declared.kinds.Kind.{Kind}
 use Rattle.rules.specs.declared.quantities.Shared.{Shared}
-use Rattle.rules.specs.Lists.{pick, splitOn}
+use Rattle.rules.specs.Lists.{splitOn}
 use Rattle.rules.specs.Kinds.{strip, ignored, kindOf}
 use Rattle.rules.specs.Records.{Record, addressRecords, recordsOf}
 use Rattle.rules.specs.Bytes.{size, sizeOfAll, bytesOf}

@@ -1,5 +1,5 @@
-use Rattle.compiler.proofs.Compiling.{compile·laws}
 use borrow.Author.Needs.{needs}
+use Rattle.compiler.proofs.Compiling.{compile·laws}
 use Rattle.compiler.proofs.compile.compile.Statement.{statement}
 use Rattle.compiler.proofs.compile.compile.Tie as tie
 
