@@ -19,7 +19,7 @@ use Rattle.addresses.specs.declared.octets.OctetsRead.{OctetsRead}
 
 no-address : (x : Option (List ℕ)) (bytes : List ℕ) → none ≡ x → length bytes ≡ 16 → IsAddress x (record { bytes = bytes; len = 0 })
 unfolding addressRead pick
-no-address x bytes e l = record { says = e; few = omega arith; long = l }
+no-address x bytes e l = record { says = e; sizes = λ a b. absurd (a refl); few = omega arith; long = l }
 
 -- what a reading by pieces tells where it's good, and where it isn't
 some-by : (u : Bool) (x y : List ℕ) → some y ≡ pick u (some x) none → (u ≡ true) × (x ≡ y)
@@ -71,6 +71,7 @@ module _ (s : List ℕ) (o : OctetsRead) (e : IsOctets s o) where
           says =
               rw (four-front (o .bytes) b (e .long) (omega arith), n, good-is .0, good-is .1)
               (ap some (sym (take-all (o .count) (o .bytes) (omega (arith, e .long)))));
+          sizes = λ x y. absurd (y refl);
           few = omega arith;
           long = simp length-set l;
         }
@@ -112,7 +113,7 @@ module _ (s : List ℕ) (x : GroupsRead) (e : IsGroups s x) where
   unfolding groupsRead addressRead groupedAddress pick
   sixteen b q g =
       let l : length b ≡ 16 = ap length q ∙ groups-length (x .groups) ∙ omega (arith, e .long) in
-      record { says = ap some (take-all 16 b (omega arith) ∙ q) ∙ rw g at (e .says); few = omega arith; long = l }
+      record { says = ap some (take-all 16 b (omega arith) ∙ q) ∙ rw g at (e .says); sizes = λ u w. refl; few = omega arith; long = l }
 
   pub bad-groups : (b : List ℕ) → x .good ≡ false → length b ≡ 16 → IsAddress (groupedAddress s) (record { bytes = b; len = 0 })
   unfolding groupsRead groupedAddress pick

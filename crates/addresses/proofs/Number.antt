@@ -1,21 +1,23 @@
 -- The laws of a number: how a turn of the loop takes one digit, and how each way out ends it.
-use mathlib.Core.Path.{_≡_, refl, _∙_}
-use mathlib.Core.Bool.{true, false}
+use mathlib.Core.Path.{_≡_, refl, _∙_, sym}
+use mathlib.Core.Bool.{Bool, true, false, _&&_}
 use mathlib.Core.List.{List}
 use mathlib.Core.Option.{none, some}
 use Prim.Native.Nat.{ℕ, _+_, _*_, _-_, _^_, _<_, _≤_}
 use native.Mathlib.Nat.{pow-suc, pow-le-pow-right}
 use native.Mathlib.Numerals.{add-one}
 use native.Mathlib.Omega.{arith}
-use borrow.Author.Tests.{le-leb, lt-leb}
+use borrow.Author.Tests.{le-leb, lt-leb, leb-true}
 use borrow.Author.Needs.{needs}
-use lib.Dec.{lit<}
+use lib.Dec.{lit<, leb}
 use lib.ListN.{length, getD, drop, drop-of-length-le}
 use mir.Val.{Fits}
 use mir.Syntax.{w64}
 use Rattle.rules.specs.Lists.{pick, all}
 use Rattle.rules.specs.Fields.{digit, decimalFrom, numberOf}
 use Rattle.wire.proofs.Steps.{left-at}
+use Rattle.addresses.specs.Views.{numberRead}
+use Rattle.addresses.specs.declared.numbers.NumberRead.{NumberRead}
 
 -- what is left at i are digits exactly if all are, and read behind the value so far they give the number
 pub record Digits (s : List ℕ) (value i : ℕ) : Type 0 where
@@ -90,5 +92,18 @@ times-fits i v n h k m = let b = ten-digits i v h (omega arith) in omega arith
 
 pub more-fits : (i v n d b : ℕ) → v < 10 ^ i → i < n → n ≤ 10 → d ≡ b - 48 → b ≤ 57 → Fits w64 (v * 10 + d)
 more-fits i v n d b h k m e g = let l = ten-digits i v h (omega arith) in omega arith
+
+-- a good number is within its limit
+value-within : (limit : ℕ) (t : List ℕ) (v : ℕ) → numberOf limit t ≡ some v → v ≤ limit
+unfolding numberOf pick
+value-within limit t v e = by (leb 1 (length t) && leb (length t) 10 && all digit t) (leb (decimalFrom 0 t) limit) refl e
+  where
+    by : (u w : Bool) → leb (decimalFrom 0 t) limit ≡ w → pick (u && w) (some (decimalFrom 0 t)) none ≡ some v → v ≤ limit
+    by true true a e = let q : decimalFrom 0 t ≡ v = cc in omega (arith, leb-true (decimalFrom 0 t) limit a)
+    by true false a e = absurd (let z : _≡_ {A = ℕ} 0 1 = cc in omega arith)
+    by false w a e = absurd (let z : _≡_ {A = ℕ} 0 1 = cc in omega arith)
+
+pub within : (limit : ℕ) (t : List ℕ) (r : NumberRead) (v : ℕ) → numberRead r ≡ numberOf limit t → r ≡ NumberRead.Good v → v ≤ limit
+within limit t r v p q = value-within limit t v (sym p ∙ rw q)
 
 pub ruleset number·laws = (begin, turn, empty, long, low, high, good, over, ten-more, times-fits, more-fits, needs)

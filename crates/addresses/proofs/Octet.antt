@@ -1,21 +1,22 @@
 -- The laws of one number of an IPv4 address: a number of at most three digits and 255, without a zero in front.
 use mathlib.Core.Path.{_≡_, refl, _∙_, sym}
-use mathlib.Core.Bool.{Bool, true, false, not, _&&_, _||_, and-true, and-false}
+use mathlib.Core.Bool.{Bool, true, false, not, _||_, and-true, and-false}
 use mathlib.Core.List.{List, [], _∷_}
 use mathlib.Core.Option.{none, some}
 use Prim.Native.Nat.{ℕ, _<_, _≤_}
 use native.Mathlib.Omega.{arith}
 use borrow.Author.Needs.{needs}
-use borrow.Author.Tests.{le-leb, lt-leb, ne-eqb, leb-true, not-true, not-false}
-use lib.Dec.{leb, eqb}
+use borrow.Author.Tests.{le-leb, lt-leb, ne-eqb, not-true, not-false}
+use lib.Dec.{eqb}
 use lib.ListN.{length, getD}
 use mir.Val.{Fits}
 use mir.Syntax.{w8}
-use Rattle.rules.specs.Lists.{pick, all}
-use Rattle.rules.specs.Fields.{digit, decimalFrom, firstIsZero, octet, numberOf}
+use Rattle.rules.specs.Lists.{pick}
+use Rattle.rules.specs.Fields.{firstIsZero, octet, numberOf}
 use Rattle.addresses.specs.Views.{numberRead}
 use Rattle.addresses.specs.Pieces.{leadingZero, octetOf}
 use Rattle.addresses.specs.declared.numbers.NumberRead.{NumberRead}
+use Rattle.addresses.proofs.Number.{within}
 
 pub short : (t : List ℕ) → length t < 2 → false ≡ leadingZero t
 unfolding leadingZero firstIsZero
@@ -56,17 +57,7 @@ module _ (t : List ℕ) where
     pub bad : (x : NumberRead) → numberRead x ≡ numberOf 255 t → x ≡ NumberRead.Bad → none ≡ octetOf t
     bad x a b = rw (← number-is, ← a, b)
 
--- a good number is within its limit
-within : (limit : ℕ) (t : List ℕ) (v : ℕ) → numberOf limit t ≡ some v → v ≤ limit
-unfolding numberOf pick
-within limit t v e = by (leb 1 (length t) && leb (length t) 10 && all digit t) (leb (decimalFrom 0 t) limit) refl e
-  where
-    by : (u w : Bool) → leb (decimalFrom 0 t) limit ≡ w → pick (u && w) (some (decimalFrom 0 t)) none ≡ some v → v ≤ limit
-    by true true a e = let q : decimalFrom 0 t ≡ v = cc in omega (arith, leb-true (decimalFrom 0 t) limit a)
-    by true false a e = absurd (let z : _≡_ {A = ℕ} 0 1 = cc in omega arith)
-    by false w a e = absurd (let z : _≡_ {A = ℕ} 0 1 = cc in omega arith)
-
 pub byte-fits : (t : List ℕ) (x : NumberRead) (v : ℕ) → numberRead x ≡ numberOf 255 t → x ≡ NumberRead.Good v → Fits w8 v
-byte-fits t x v a b = let l = within 255 t v (sym a ∙ rw b) in omega arith
+byte-fits t x v a b = let l = within 255 t x v a b in omega arith
 
 pub ruleset octet·laws = (long, zero-ahead, good, bad, byte-fits, needs)

@@ -47,6 +47,7 @@ addressRead r = pick (eqb (r .len) 0) none (some (take (r .len) (r .bytes)))
 
 pub record IsAddress (value : Option (List ℕ)) (r : AddressRead) : Type 0 where
   pub says : addressRead r ≡ value
+  pub sizes : (r .len ≡ 0 → ⊥) → (r .len ≡ 4 → ⊥) → r .len ≡ 16
   pub few : r .len ≤ 16
   pub long : length (r .bytes) ≡ 16
 

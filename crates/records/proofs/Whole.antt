@@ -51,12 +51,12 @@ module _ (shared : Shared) (owner : List ℕ) (type : ℕ) where
       length-append (fixedFields shared owner type) rdata ∙ (rw (fixed-length shared owner type, e)) in
       rw (k, f) (append-assoc (le 4 (keySize owner) ++ le 4 (fixedSize (shared .lo) + n) ++ ownerKey owner) (fixedFields shared owner type) rdata)
 
-  pub resource-size : (rdata : List ℕ) → size (resourceOf shared owner type rdata) ≡ headSize shared owner + length rdata
-  resource-size rdata =
+  pub resource-size : (n : ℕ) (rdata : List ℕ) → n ≡ length rdata → size (resourceOf shared owner type rdata) ≡ headSize shared owner + n
+  resource-size n rdata e =
       sym (encode-length (resourceOf shared owner type rdata))
-      ∙ ap length (sym (record-is (length rdata) rdata refl))
-      ∙ length-append (headOf shared owner type (length rdata)) rdata
-      ∙ rw (head-length shared owner type (length rdata))
+      ∙ ap length (sym (record-is n rdata e))
+      ∙ length-append (headOf shared owner type n) rdata
+      ∙ rw (head-length shared owner type n, e)
 
 pub location-is : (prefix : List ℕ) (lo : Lo) (l : ℕ) → l ≡ length (loBytes lo)
     → le 4 (2 + length prefix) ++ le 4 l ++ (0 ∷ 37 ∷ prefix) ++ loBytes lo ≡ encode (location prefix (loBytes lo))
@@ -70,8 +70,10 @@ unfolding size keyOf dataOf fixedOf rdataOf
 location-size prefix lo = omega arith
 
 -- the data of an MX record are in two parts
+pub mx-length : (dist : ℕ) (host : List ℕ) → 2 + length host ≡ length (be 2 dist ++ host)
+mx-length dist host = simp (length-append, length-be)
+
 pub mx-is : (shared : Shared) (owner : List ℕ) (dist : ℕ) (host : List ℕ)
     → headOf shared owner 15 (2 + length host) ++ be 2 dist ++ host ≡ encode (resourceOf shared owner 15 (be 2 dist ++ host))
 mx-is shared owner dist host =
-    let n : 2 + length host ≡ length (be 2 dist ++ host) = simp (length-append, length-be) in
-    append-assoc (headOf shared owner 15 (2 + length host)) (be 2 dist) host ∙ record-is shared owner 15 (2 + length host) (be 2 dist ++ host) n
+    append-assoc (headOf shared owner 15 (2 + length host)) (be 2 dist) host ∙ record-is shared owner 15 (2 + length host) (be 2 dist ++ host) (mx-length dist host)

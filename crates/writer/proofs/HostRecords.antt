@@ -12,7 +12,10 @@ use Rattle.rules.specs.Names.{wireOf}
 use Rattle.rules.specs.Records.{Record, ns, mx, srv, shortAt, sharedOf, resourceOf, hostName, contactOf, joinedNames, soaData, soaShared, srvData, addressRecords, addressIn, recordsOf}
 use Rattle.rules.specs.Bytes.{encode, bytesOf}
 use Rattle.rules.specs.declared.kinds.Kind.{Kind}
+use Rattle.rules.specs.declared.quantities.Port.{Port}
+use Rattle.rules.specs.declared.quantities.Priority.{Priority}
 use Rattle.rules.specs.declared.quantities.Shared.{Shared}
+use Rattle.rules.specs.declared.quantities.Weight.{Weight}
 use Rattle.rules.proofs.Lists.{all-head, all-tail}
 use Rattle.rules.proofs.GoodLines.{kind-done}
 use Rattle.rules.proofs.Numbers.{length-be}
@@ -24,6 +27,7 @@ use Rattle.lines.specs.declared.splits.Span.{Span}
 use Rattle.writer.specs.Ready.{Ready, middleOf, IsHostLine, Lendable, hostRecords, zoneRecords, serviceRecords}
 use Rattle.writer.specs.declared.hosts.HostLine.{HostLine}
 use Rattle.writer.specs.declared.names.Name.{Name}
+use Rattle.writer.proofs.Readiness.{ready-fields}
 use Rattle.writer.proofs.Sequence.{rest-fits, rest-starts, rest-put, first-fits}
 
 -- ---- the records of a line with a field x, by what was read of it
@@ -127,3 +131,24 @@ pub ruleset authority·laws = (needs, front-count, authority-put, authority-room
 pub ruleset zone·laws = (needs, rest-fits, rest-starts, rest-put)
 
 pub ruleset zone-line·laws = (needs, lendable, contact-short, room-of, put-of, zone-is, zone-label)
+
+-- ---- mail and services
+
+module _ (shared : Shared) (owner host : List ℕ) (rs : List Record) (n : ℕ) where
+  pub mx-room : (dist : ℕ) → length (bytesOf (resourceOf shared owner 15 (be 2 dist ++ host) ∷ rs)) ≤ n → headSize shared owner + (2 + length host) ≤ n
+  mx-room dist k =
+      omega (arith, first-fits shared owner 15 rs n (be 2 dist ++ host) k, length-append (be 2 dist) host, length-be 2 dist)
+
+  pub srv-room : (priority : Priority) (weight : Weight) (port : Port) → length (bytesOf (resourceOf shared owner 33 (srvData priority weight port host) ∷ rs)) ≤ n → headSize shared owner + (6 + length host) ≤ n
+  unfolding srvData
+  srv-room priority weight port k =
+      let l : length (srvData priority weight port host) ≡ 6 + length host = simp (length-append, length-be) (omega arith) in
+      omega (arith, first-fits shared owner 33 rs n (srvData priority weight port host) k)
+
+pub ruleset exchanger·laws = (needs, front-count, rest-fits, rest-starts, rest-put, mx-room)
+
+pub ruleset service·laws = (needs, front-count, rest-fits, rest-starts, rest-put, srv-room)
+
+pub ruleset mail-line·laws = (needs, lendable, ready-fields, room-of, put-of, mail-is, mx-label)
+
+pub ruleset service-line·laws = (needs, lendable, ready-fields, room-of, put-of, service-is, srv-label)

@@ -1,0 +1,4 @@
+pub mod Ranks
+pub mod Locations
+pub mod Views
+pub mod Answers

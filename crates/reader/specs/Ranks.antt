@@ -1,0 +1,45 @@
+-- The level of a question by numbers: the rank of each record, and the records of the largest rank.
+use Prim.Native.Nat.{ℕ, max}
+use mathlib.Core.Bool.{Bool, false, _||_}
+use mathlib.Core.List.{List, [], _∷_}
+use mathlib.Core.Option.{Option, none, some}
+use lib.ListN.{length}
+use lib.Dec.{eqb}
+use Rattle.rules.specs.Lists.{pick, keep, sameBytes}
+use Rattle.rules.specs.Records.{Record}
+use Rattle.rules.specs.Questions.{visible, ordinaryOf, wildcardOf, ancestors}
+
+-- of a wildcard record: the length of the first of these names that it is a wildcard of, or 0
+unfoldable pub rankAmong : List (List ℕ) → Record → ℕ
+rankAmong [] r = 0
+rankAmong (a ∷ names) r = pick (wildcardOf a r) (length a) (rankAmong names r)
+
+-- more than any length for an ordinary record of the name; no ancestor is as long
+unfoldable pub rankOf : List ℕ → Record → ℕ
+rankOf name r = pick (ordinaryOf name r) 256 (rankAmong (ancestors name) r)
+
+module _ {A : Type 0} where
+  unfoldable pub largest : (A → ℕ) → List A → ℕ
+  largest f [] = 0
+  largest f (x ∷ xs) = max (f x) (largest f xs)
+
+  -- those of the largest number, or nothing if that is 0
+  unfoldable pub chosen : (A → ℕ) → List A → List A
+  chosen f xs = pick (eqb (largest f xs) 0) [] (keep (λ x. eqb (f x) (largest f xs)) xs)
+
+-- ---- as the code finds it, from the key alone
+
+unfoldable pub among : List ℕ → List (List ℕ) → Bool
+among key [] = false
+among key (a ∷ names) = sameBytes key a || among key names
+
+unfoldable pub keyRank : List ℕ → List ℕ → Bool → ℕ
+keyRank name key wild = pick wild (pick (among key (ancestors name)) (length key) 0) (pick (sameBytes key name) 256 0)
+
+-- the rank of a record that is seen, and 0 for one that isn't
+unfoldable pub seenRank : List ℕ → List ℕ → ℕ → Record → ℕ
+seenRank name here moment r = pick (visible here moment r) (rankOf name r) 0
+
+unfoldable pub rankIn : List ℕ → List ℕ → ℕ → Option Record → ℕ
+rankIn name here moment none = 0
+rankIn name here moment (some r) = seenRank name here moment r

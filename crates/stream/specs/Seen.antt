@@ -1,0 +1,57 @@
+-- What the code answers of one record, and the record that it means.
+use Prim.Native.Nat.{ℕ}
+use mathlib.Core.Bool.{Bool, _&&_}
+use mathlib.Core.List.{List, _∷_}
+use mathlib.Core.Option.{Option, none, some}
+use lib.ListN.{length, take, drop, getD}
+use lib.Dec.{leb, ltb}
+use Rattle.rules.specs.declared.quantities.Lo.{Lo}
+use Rattle.rules.specs.Lists.{pick, fromBE}
+use Rattle.rules.specs.Fields.{largestTtl}
+use Rattle.rules.specs.Records.{Record, location, resource, loBytes}
+use Rattle.rules.specs.Reading.{ordinaryKey, wildcardKey, isLo, momentEnd}
+use Rattle.stream.specs.declared.record.Seen.{Seen}
+use Rattle.stream.specs.declared.record.Fields.{Fields}
+
+-- a wildcard's owner has the label `*` in front
+unfoldable pub ownerOf : Bool → List ℕ → List ℕ
+ownerOf wild key = pick wild (1 ∷ 42 ∷ key) key
+
+unfoldable pub goodKey : Bool → List ℕ → Bool
+goodKey wild key = pick wild (wildcardKey key) (ordinaryKey key)
+
+-- the record that is meant: the prefix of a location stands behind two bytes of its key
+unfoldable pub seenRecord : List ℕ → List ℕ → Seen → Option Record
+seenRecord key rdata Seen.Broken = none
+seenRecord key rdata (Seen.Location lo) = some (location (drop 2 key) (loBytes lo))
+seenRecord key rdata (Seen.Resource wild type shared fixed) =
+    some (resource (ownerOf wild key) type (loBytes (shared .lo)) (shared .ttl .0) (shared .time .0) (drop fixed rdata))
+
+-- where the record data begin
+unfoldable pub fixedIn : Seen → ℕ
+fixedIn Seen.Broken = 0
+fixedIn (Seen.Location lo) = 0
+fixedIn (Seen.Resource wild type shared fixed) = fixed
+
+-- ttl and time behind lo, as rules' behindLo reads them
+unfoldable pub sharedIn : Lo → List ℕ → Fields
+sharedIn lo rest =
+    let ttl = fromBE 0 (take 4 rest) in
+    let time = fromBE 0 (take 8 (drop 4 rest)) in
+    pick (leb 12 (length rest) && leb ttl largestTtl && ltb time momentEnd) (Fields.Whole (record { ttl = record { 0 = ttl }; time = record { 0 = time }; lo = lo })) Fields.Broken
+
+unfoldable pub seenWith : Bool → ℕ → ℕ → Fields → Seen
+seenWith wild type fixed Fields.Broken = Seen.Broken
+seenWith wild type fixed (Fields.Whole shared) = Seen.Resource wild type shared fixed
+
+-- a record without lo: behind type and flag, three bytes
+unfoldable pub plainIn : List ℕ → List ℕ → Bool → ℕ → Seen
+plainIn key rdata wild type = pick (goodKey wild key) (seenWith wild type 15 (sharedIn Lo.Every (drop 3 rdata))) Seen.Broken
+
+unfoldable pub loIn : List ℕ → Lo
+loIn rest = Lo.Code (getD rest 0 0) (getD rest 1 0)
+
+-- and one with lo
+unfoldable pub locatedIn : List ℕ → List ℕ → Bool → ℕ → Seen
+locatedIn key rdata wild type =
+    pick (goodKey wild key) (pick (isLo (take 2 (drop 3 rdata))) (seenWith wild type 17 (sharedIn (loIn (drop 3 rdata)) (drop 5 rdata))) Seen.Broken) Seen.Broken
