@@ -1,2 +1,6 @@
 // A source compiled: every line judged and the sizes summed, then the room tested, then every line written.
+pub mod compile;
 pub mod ends;
+pub mod judge;
+pub mod standin;
+pub mod write;

@@ -170,7 +170,7 @@ record-back (resource owner type lo ttl time rd) (okResource s) = back (wild own
 
 -- ---- all records
 
-key-short : (r : Record) → Ok r → length (keyOf r) ≤ 255
+pub key-short : (r : Record) → Ok r → length (keyOf r) ≤ 255
 unfolding keyOf unstarred
 key-short (location p lo) (okLocation s g) = omega arith
 key-short (resource owner type lo ttl time rd) (okResource s) =
@@ -193,7 +193,7 @@ flag-length false (a ∷ lo) = refl
 flag-length true [] = refl
 flag-length true (a ∷ lo) = refl
 
-data-short : (r : Record) → Ok r → length (dataOf r) ≤ 5000
+pub data-short : (r : Record) → Ok r → length (dataOf r) ≤ 5000
 unfolding dataOf fixedOf rdataOf
 data-short (location p lo) (okLocation s g) = omega (arith, lo-short lo (lo-of lo g))
 data-short (resource owner type lo ttl time rd) (okResource s) = simp (length-append, length-be, flag-length) (omega (arith, lo-short lo (s .coded), s .sized))

@@ -9,4 +9,5 @@ pub mod Decoding
 pub mod Lowering
 pub mod Refusals
 pub mod Meaning
+pub mod Sizes
 pub mod Bench
