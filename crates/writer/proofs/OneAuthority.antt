@@ -1,9 +1,9 @@
 -- The laws of an authority line and of a location line.
 use mathlib.Core.Path.{_≡_, refl, ap, _∙_, sym}
 use mathlib.Core.Bool.{Bool, true, false}
-use mathlib.Core.List.{List, [], _∷_}
+use mathlib.Core.List.{List, []}
 use mathlib.Core.Option.{Option, none, some}
-use Prim.Native.Nat.{ℕ, _+_, _≤_, _<_}
+use Prim.Native.Nat.{ℕ, _+_, _≤_}
 use native.Mathlib.Omega.{arith}
 use borrow.Author.Needs.{needs}
 use lib.Dec.{T}
@@ -24,7 +24,6 @@ use Rattle.wire.specs.Put.{IsPut}
 use Rattle.addresses.specs.Addresses.{prefixRead, IsPrefix}
 use Rattle.addresses.specs.declared.addresses.PrefixRead.{PrefixRead}
 use Rattle.fields.specs.Views.{isNamed}
-use Rattle.lines.specs.Splits.{FieldsOf}
 use Rattle.lines.specs.declared.splits.Span.{Span}
 use Rattle.rdata.proofs.Sizes.{soa-length}
 use Rattle.rdata.specs.declared.parts.SoaNumbers.{SoaNumbers}

@@ -1,20 +1,19 @@
 -- The laws of the lines of one record.
-use mathlib.Core.Path.{_≡_, refl, ap, _∙_, sym}
-use mathlib.Core.Bool.{Bool, true, false}
-use mathlib.Core.List.{List, [], _∷_, _++_, append-nil}
-use mathlib.Core.Option.{Option, none, some}
-use Prim.Native.Nat.{ℕ, _+_, _≤_, _<_}
+use mathlib.Core.Path.{_≡_, refl, ap, sym}
+use mathlib.Core.Bool.{true}
+use mathlib.Core.List.{List, [], _∷_, append-nil}
+use Prim.Native.Nat.{ℕ, _+_, _≤_}
 use native.Mathlib.Omega.{arith}
 use borrow.Author.Needs.{needs}
 use lib.Dec.{T}
 use lib.ListN.{length, take}
 use lib.Seq.{length-take-le}
-use Rattle.rules.specs.Lists.{joinAll, splitOn, valueOr}
+use Rattle.rules.specs.Lists.{joinAll, splitOn}
 use Rattle.rules.specs.Kinds.{common, meanings, fieldCount, fieldAt}
 use Rattle.rules.specs.Names.{NameRead, named, misnamed, nameOf, wireOf}
 use Rattle.rules.specs.Fields.{nameFault, needed, faultOf}
 use Rattle.rules.specs.Records.{Record, recordsOf, resourceOf, sharedOf}
-use Rattle.rules.specs.Bytes.{bytesOf, encode, size}
+use Rattle.rules.specs.Bytes.{bytesOf, encode}
 use Rattle.rules.specs.Answers.{isDone}
 use Rattle.rules.specs.declared.faults.FieldKind.{FieldKind}
 use Rattle.rules.specs.declared.kinds.Kind.{Kind}
@@ -22,7 +21,6 @@ use Rattle.rules.specs.declared.quantities.Shared.{Shared}
 use Rattle.rules.proofs.GoodLines.{FieldsDone, kind-done}
 use Rattle.wire.specs.Put.{IsPut}
 use Rattle.fields.specs.Views.{isNamed}
-use Rattle.lines.specs.Splits.{FieldsOf}
 use Rattle.lines.specs.declared.splits.Span.{Span}
 use Rattle.records.specs.Head.{headSize}
 use Rattle.records.proofs.Whole.{encode-length, resource-size}
