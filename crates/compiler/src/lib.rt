@@ -2,5 +2,4 @@
 pub mod compile;
 pub mod ends;
 pub mod judge;
-pub mod standin;
 pub mod write;

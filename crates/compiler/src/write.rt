@@ -9,7 +9,7 @@ ghost use Rattle.rules.specs.Bytes.{bytesOf};
 ghost use Rattle.rules.specs.Answers.{isGood, sourceRecords};
 ghost use Rattle.wire.specs.Put.{IsPut};
 use crate::ends::line_length;
-use crate::standin::put_line;
+use writer::line::put_line;
 
 pub fn write_all(source: &[u8], serial: u32, out: &mut [u8]) -> usize
     requires { ⌜ (length (now source) ≤ 1048576) × (all isGood (linesOf (now source)) ≡ true) ⌝ }
