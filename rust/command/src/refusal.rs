@@ -38,7 +38,10 @@ pub fn of_asking(path: &Path, refusal: AskRefusal) -> Failure {
 fn text_at(source: &[u8], line: u64, field: u64) -> &[u8] {
     let number = |from_one: u64| usize::try_from(from_one).ok()?.checked_sub(1);
     let line = number(line).and_then(|line| source.split(|&byte| byte == b'\n').nth(line));
-    let line = line.unwrap_or_default().trim_ascii_end();
+    let mut line = line.unwrap_or_default();
+    while let [before @ .., b' ' | b'\t'] = line {
+        line = before;
+    }
     let field = number(field).and_then(|field| {
         let fields = line.get(1..)?;
         fields.split(|&byte| byte == b':').nth(field)
