@@ -15,12 +15,13 @@ pub fn run(reading: &Reading, seed: u64, case: u64, tally: &mut Tally) -> Checke
     let mut random = Random::of_case(seed, case);
     let random = &mut random;
     match case % 16 {
-        0..=5 => source(
+        0..=2 => source(
             reading,
             &sources::of_lines(Mood::Good, random),
             random,
             tally,
         ),
+        3..=5 => source(reading, &sources::crowded(random), random, tally),
         6..=7 => {
             let borderline = sources::of_lines(Mood::Borderline, random);
             source(reading, &borderline, random, tally)

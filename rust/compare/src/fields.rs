@@ -64,9 +64,9 @@ impl Field {
                 let number = random.pick(&[1, 3, 16, 16, 28, 33, 99, 251, 253, 255, 256, 65_535]);
                 padded(number, random)
             }
-            Field::Time if random.once_in(2) => Vec::new(),
+            Field::Time if !random.once_in(3) => Vec::new(),
             Field::Time => format!("{:016x}", time(random)).into_bytes(),
-            Field::Lo if random.once_in(2) => Vec::new(),
+            Field::Lo if !random.once_in(3) => Vec::new(),
             Field::Lo | Field::GivenLo => random.pick(&["in", "ex", "a", "IN", "i", "Zz"]).into(),
             Field::Prefix => {
                 let octets = random.below(5);

@@ -6,6 +6,15 @@ use crate::names;
 use crate::random::Random;
 use crate::reading::Asked;
 
+/// Clients that prefixes of several lengths fit.
+const CLIENTS: [[u8; 4]; 5] = [
+    [10, 1, 168, 192],
+    [10, 1, 168, 0],
+    [10, 1, 0, 0],
+    [10, 0, 0, 0],
+    [192, 168, 0, 1],
+];
+
 /// A question about these record bytes, whatever they are.
 pub fn about(records: &[u8], random: &mut Random) -> Asked {
     let keys = keys(records);
@@ -101,7 +110,8 @@ fn client(random: &mut Random) -> Vec<u8> {
     let length = match random.below(60) {
         0 => random.pick(&[0, 1, 3, 5, 8, 15, 17, 32]),
         1..=9 => 16,
-        _ => 4,
+        10..=20 => 4,
+        _ => return random.pick(&CLIENTS).to_vec(),
     };
     (0..length).map(|_| random.pick(&OCTETS)).collect()
 }

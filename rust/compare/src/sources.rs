@@ -1,5 +1,6 @@
 //! Sources: good ones, borderline ones, damaged ones and noise.
 
+use crate::fields::NOON;
 use crate::lines::{self, Mood};
 use crate::random::Random;
 
@@ -12,6 +13,35 @@ pub fn of_lines(mood: Mood, random: &mut Random) -> Vec<u8> {
         source.push(b'\n');
     }
     source
+}
+
+/// A good source whose records crowd around few names, so that levels,
+/// locations and times decide between them.
+pub fn crowded(random: &mut Random) -> Vec<u8> {
+    let mut source = String::new();
+    for _ in 0..random.within(4, 20) {
+        let name = random.pick(&["a.b", "A.B", "b", "*.b", "*.a.b", "*", "x.a.b", "*.*.b", ""]);
+        let lo = random.pick(&["", "", "in", "ex", "a"]);
+        let ttl = random.pick(&["", "0", "0", "5"]);
+        let time = match random.once_in(3) {
+            true => format!("{:016x}", NOON + random.below(4) as u64),
+            false => String::new(),
+        };
+        let ending = format!("{ttl}:{time}:{lo}");
+        let number = random.below(256);
+        source += &match random.below(8) {
+            0 | 1 => {
+                let lo = random.pick(&["in", "ex", "a"]);
+                let prefix = random.pick(&["", "10", "10.1", "10.1.168", "10.1.168.192", "192"]);
+                format!("%{lo}:{prefix}\n")
+            }
+            2 => format!("'{name}:{number}:{ending}\n"),
+            3 => format!("C{name}:{number}.c:{ending}\n"),
+            4 => format!("&{name}::{number}.d:{ending}\n"),
+            _ => format!("+{name}:1.2.3.{number}:{ending}\n"),
+        };
+    }
+    source.into_bytes()
 }
 
 /// A good source of classic lines alone: no IPv6 address, no service.
