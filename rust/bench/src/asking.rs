@@ -41,16 +41,19 @@ fn question(bytes: &[u8], name: &[u8], words: &str, count: usize, rounds: usize)
             black_box(reference::ask(bytes, black_box(&second), 0));
         }),
         Contender::new("plain walk", || {
-            black_box(walk(bytes, black_box(name)));
+            black_box(walk(bytes, black_box(name), |_| true));
+        }),
+        Contender::new("walk that judges keys", || {
+            black_box(walk(bytes, black_box(name), is_key));
         }),
     ];
     let title = format!("ask: {count} records, {} bytes, {words}", bytes.len());
     compare(&title, rounds.min(400), contenders);
 }
 
-/// The least that any reader does: lengths read, keys compared, nothing
-/// judged. Gives the number of records with the key.
-fn walk(bytes: &[u8], key: &[u8]) -> usize {
+/// The least that any reader does: lengths read, keys compared. Gives the
+/// number of records with the key, among those whose key is taken.
+fn walk(bytes: &[u8], key: &[u8], taken: impl Fn(&[u8]) -> bool) -> usize {
     let mut found = 0;
     let mut at = 0;
     while at + 8 <= bytes.len() {
@@ -60,10 +63,27 @@ fn walk(bytes: &[u8], key: &[u8]) -> usize {
         };
         let key_end = at + 8 + length(at);
         let end = key_end + length(at + 4);
-        if bytes[at + 8..key_end] == *key {
+        let its_key = &bytes[at + 8..key_end];
+        if taken(its_key) && its_key == key {
             found += 1;
         }
         at = end;
     }
     found
+}
+
+/// Judges a key as every reader must: whole labels, no upper case.
+fn is_key(key: &[u8]) -> bool {
+    let mut at = 0;
+    while let Some(&length) = key.get(at) {
+        if length == 0 {
+            return at + 1 == key.len();
+        }
+        let end = at + 1 + usize::from(length);
+        match key.get(at + 1..end) {
+            Some(label) if length < 64 && !label.iter().any(u8::is_ascii_uppercase) => at = end,
+            _ => return false,
+        }
+    }
+    false
 }

@@ -13,7 +13,7 @@ mod show;
 mod types;
 
 use std::env;
-use std::io::{self, Write};
+use std::io::{self, ErrorKind, Write};
 use std::process::ExitCode;
 
 use arguments::Arguments;
@@ -51,10 +51,15 @@ fn run() -> Result<(), Failure> {
     }
 }
 
-/// Writes to the standard output; what can't be written is a failure.
+/// Writes to the standard output; what can't be written is a failure. One who
+/// reads no further has what he wanted.
 fn say(text: &str) -> Result<(), Failure> {
     let mut out = io::stdout().lock();
-    out.write_all(text.as_bytes())
-        .and_then(|()| out.flush())
-        .map_err(|error| Failure::Trouble(format!("vahmizar: standard output: {error}")))
+    match out.write_all(text.as_bytes()).and_then(|()| out.flush()) {
+        Err(error) if error.kind() != ErrorKind::BrokenPipe => {
+            let words = format!("vahmizar: standard output: {error}");
+            Err(Failure::Trouble(words))
+        }
+        _ => Ok(()),
+    }
 }

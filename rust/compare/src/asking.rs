@@ -23,9 +23,11 @@ pub fn check(
     random: &mut Random,
     tally: &mut Tally,
 ) -> Checked<Vec<[u64; 5]>> {
+    let lent = Guarded::holding(records, random);
     let mut call = Call {
         reading,
         records,
+        lent: &lent,
         asked,
         random,
         tally,
@@ -47,6 +49,9 @@ pub fn check(
     if call.random.once_in(8) {
         let length = call.random.pick(&WRONG_LENGTHS);
         call.wrong_answer(length)?;
+    }
+    if lent.inner() != records {
+        return Err(call.differs(0, "the records were written"));
     }
     Ok(handed)
 }
@@ -99,6 +104,7 @@ pub fn check_meaning(
 struct Call<'a> {
     reading: &'a Reading,
     records: &'a [u8],
+    lent: &'a Guarded,
     asked: &'a Asked,
     random: &'a mut Random,
     tally: &'a mut Tally,
@@ -111,7 +117,7 @@ impl Call<'_> {
         let mut answer = Guarded::new(sys::ASK_ANSWER, self.random);
         let mut wanted_answer = answer.clone();
         let returned = sys::ask(
-            self.records,
+            self.lent.inner(),
             name.inner(),
             self.asked.record_type,
             client.inner(),
@@ -152,7 +158,7 @@ impl Call<'_> {
         let before = Guarded::new(length, self.random);
         let mut answer = before.clone();
         let returned = sys::ask(
-            self.records,
+            self.lent.inner(),
             &self.asked.name,
             self.asked.record_type,
             &self.asked.client,

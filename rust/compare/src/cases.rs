@@ -76,14 +76,9 @@ pub fn stream(
     random: &mut Random,
     tally: &mut Tally,
 ) -> Checked {
-    let kept = records.to_vec();
     for _ in 0..QUESTIONS {
         let asked = questions::about(records, random);
         asking::check(reading, records, &asked, random, tally)?;
-    }
-    if records != kept {
-        let records = literal(&kept);
-        return Err(Difference(format!("ask wrote to the records {records}")));
     }
     Ok(())
 }

@@ -52,6 +52,8 @@ fn edges(random: &mut Random) -> Vec<Edge> {
         (format!("+{label}l:1.2.3.4"), [5, 1, 1]),
         (format!("&a::{label}"), good),
         (format!("&a::{label}l"), [5, 1, 3]),
+        (format!("&a::{}", name(255)), good),
+        (format!("&a::{}", name(256)), [5, 1, 3]),
         (format!("+{}:1.2.3.4", name(255)), good),
         (format!("+{}.:1.2.3.4", name(255)), good),
         (format!("+{}:1.2.3.4", name(256)), [5, 1, 1]),

@@ -9,6 +9,10 @@ const SELDOM: usize = 60;
 
 /// A stream of some records. About half of them pass the reader.
 pub fn stream(random: &mut Random) -> Vec<u8> {
+    if random.once_in(SELDOM) {
+        let length = random.below(60);
+        return random.bytes(length);
+    }
     let mut bytes = Vec::new();
     for _ in 0..random.pick(&[0, 1, 2, 3, 5, 8, 12]) {
         let (key, data) = match random.below(5) {

@@ -6,7 +6,10 @@ use crate::random::Random;
 
 /// A source of some lines.
 pub fn of_lines(mood: Mood, random: &mut Random) -> Vec<u8> {
-    let count = random.pick(&[1, 2, 3, 4, 6, 9, 14]);
+    let count = match random.once_in(500) {
+        true => 300,
+        false => random.pick(&[1, 2, 3, 4, 6, 9, 14]),
+    };
     let lines: Vec<_> = (0..count).map(|_| lines::any(mood, random)).collect();
     let mut source = lines.join(&b'\n');
     if random.once_in(2) {

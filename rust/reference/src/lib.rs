@@ -2,8 +2,8 @@
 //! rules alone. It exists to be compared with the proved library and shares
 //! no code with it or with its wrapper.
 //!
-//! * [`compile`] turns a source into record bytes;
-//! * [`ask`] answers a question over record bytes;
+//! * [`compile()`] turns a source into record bytes;
+//! * [`ask()`] answers a question over record bytes;
 //! * [`meaning::answers`] answers it from the lines themselves, without bytes.
 
 pub mod ask;
