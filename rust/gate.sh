@@ -9,6 +9,5 @@ if cargo clippy --version >/dev/null 2>&1; then
     cargo clippy --workspace --all-targets --quiet -- --deny warnings
 fi
 cargo test --quiet
-cargo test --quiet --doc --package vahmizar
 cargo run --release --quiet --package compare
 cargo run --release --quiet --package mutants

@@ -79,7 +79,7 @@ impl Call<'_> {
         }
         if answer != wanted_answer || returned != numbers[0] {
             let found = [0, 1, 2, 3].map(|place| sys::answer_number(answer.inner(), place));
-            let rest = if found == numbers {
+            let rest = if found == numbers && returned == numbers[0] {
                 "; bytes beside the answer were written"
             } else {
                 ""

@@ -262,7 +262,7 @@ fn number(most: u32, random: &mut Random) -> Vec<u8> {
 fn padded(number: u32, random: &mut Random) -> Vec<u8> {
     match random.below(8) {
         0 => format!("{number:010}").into_bytes(),
-        1 => format!("0{number:05}").into_bytes(),
+        1 => format!("{number:06}").into_bytes(),
         _ => number.to_string().into_bytes(),
     }
 }

@@ -149,3 +149,22 @@ fn of_length(random: &mut Random) -> Vec<u8> {
     line.resize(length, fill);
     line
 }
+
+#[cfg(test)]
+mod tests {
+    use super::*;
+
+    /// Only a name put together from good fields may still be too long.
+    #[test]
+    fn good_lines_are_good() {
+        for (number, (kind, fields)) in KINDS.into_iter().enumerate() {
+            for case in 0..2_000 {
+                let mut random = Random::of_case(number as u64, case);
+                let line = of_kind(kind, fields, Mood::Good, &mut random);
+                if let Err(bad) = reference::records(&line, 1) {
+                    assert_eq!((bad.fault.number(), bad.field), (5, 0), "{line:?}");
+                }
+            }
+        }
+    }
+}

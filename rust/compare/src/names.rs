@@ -136,3 +136,35 @@ pub fn wire(random: &mut Random) -> Vec<u8> {
     wire.push(0);
     wire
 }
+
+#[cfg(test)]
+mod tests {
+    use super::*;
+
+    #[test]
+    fn names_have_the_length_asked_for() {
+        let mut random = Random::of_case(1, 1);
+        for length in 3..300 {
+            let name = of_wire_length(length, &mut random);
+            assert_eq!(name.len() + 2, length);
+            let labels = name.split(|&byte| byte == b'.');
+            assert!(labels
+                .map(<[u8]>::len)
+                .all(|label| (1..=63).contains(&label)));
+            let key = crate::hostile::of_length(length);
+            assert_eq!(key.len(), length);
+            let good = reference::name::is_wire_name(&key);
+            assert_eq!(good, length <= 255, "{length}");
+        }
+    }
+
+    #[test]
+    fn good_names_are_good() {
+        for case in 0..10_000 {
+            let mut random = Random::of_case(3, case);
+            let name = good(&mut random);
+            assert!(reference::name::Name::parse(&name).is_some(), "{name:?}");
+            assert!(reference::name::is_wire_name(&wire(&mut random)));
+        }
+    }
+}

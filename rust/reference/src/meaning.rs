@@ -22,53 +22,73 @@ pub struct Given {
 /// A name as its labels, letters lowered.
 type Labels = Vec<Vec<u8>>;
 
+/// A record that the client sees.
+struct Visible<'a> {
+    owner: Labels,
+    resource: &'a Resource,
+    lifetime: u32,
+    end: u64,
+}
+
 /// All records that answer the question, in line order, or the number of
 /// the question's refusal.
 pub fn answers(records: &[Record], question: &Question<'_>) -> Result<Vec<Given>, u64> {
     if let Some(number) = question.refusal() {
         return Err(number);
     }
+    let visible = visible(records, question);
+    for owner in owners(&labels(question.name)) {
+        let level = visible.iter().filter(|record| record.owner == owner);
+        // The first owner with any record decides, whatever their types.
+        if level.clone().next().is_some() {
+            return Ok(level.filter_map(|record| given(record, question)).collect());
+        }
+    }
+    Ok(Vec::new())
+}
+
+/// The owners to look for, one after another: the name itself, then its
+/// ancestors from the nearest, each with a star in front.
+fn owners(asked: &Labels) -> Vec<Labels> {
+    let mut owners = vec![asked.clone()];
+    for behind in 1..=asked.len() {
+        let mut owner = vec![b"*".to_vec()];
+        owner.extend_from_slice(&asked[behind..]);
+        owners.push(owner);
+    }
+    owners
+}
+
+fn visible<'a>(records: &'a [Record], question: &Question<'_>) -> Vec<Visible<'a>> {
     let location = location(records, question);
     let mut end = 0;
     let mut visible = Vec::new();
     for record in records {
         end += record.size() as u64;
-        if let Record::Resource(resource) = record {
-            if let Some(lifetime) = seen(resource, location, question.moment) {
-                visible.push((resource, lifetime, end));
-            }
+        let Record::Resource(resource) = record else {
+            continue;
+        };
+        if let Some(lifetime) = seen(resource, location, question.moment) {
+            visible.push(Visible {
+                owner: labels(resource.owner.wire()),
+                resource,
+                lifetime,
+                end,
+            });
         }
     }
-    let asked = labels(question.name);
-    // The name itself, then its ancestors with a star in front.
-    let mut wanted = vec![asked.clone()];
-    for behind in 1..=asked.len() {
-        let mut ancestor = vec![b"*".to_vec()];
-        ancestor.extend_from_slice(&asked[behind..]);
-        wanted.push(ancestor);
-    }
-    // No record is an ordinary one of a name that begins with a star.
-    if asked.first().is_some_and(|label| label == b"*") {
-        wanted.remove(0);
-    }
-    let owned_by = |owner: &Labels| -> Vec<_> {
-        let owned = |(resource, _, _): &&(&Resource, u32, u64)| -> bool {
-            labels(resource.owner.wire()) == *owner
-        };
-        visible.iter().filter(owned).collect()
-    };
-    let level = wanted.iter().map(owned_by).find(|level| !level.is_empty());
-    let answers = level.unwrap_or_default().into_iter();
-    let asked_type = |record_type| [record_type, types::ALL].contains(&question.record_type);
-    Ok(answers
-        .filter(|(resource, _, _)| asked_type(resource.record_type))
-        .map(|&(resource, lifetime, end)| Given {
-            record_type: resource.record_type,
-            lifetime,
-            end,
-            data: resource.data.clone(),
-        })
-        .collect())
+    visible
+}
+
+fn given(record: &Visible<'_>, question: &Question<'_>) -> Option<Given> {
+    let record_type = record.resource.record_type;
+    let asked = question.record_type == types::ALL || question.record_type == record_type;
+    asked.then(|| Given {
+        record_type,
+        lifetime: record.lifetime,
+        end: record.end,
+        data: record.resource.data.clone(),
+    })
 }
 
 fn labels(wire: &[u8]) -> Labels {
