@@ -5,6 +5,7 @@
 //! again by itself.
 
 pub mod asking;
+pub mod borderline;
 pub mod cases;
 pub mod compiling;
 pub mod difference;

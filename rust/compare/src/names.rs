@@ -38,6 +38,12 @@ pub fn good(random: &mut Random) -> Vec<u8> {
             let labels: Vec<_> = (0..labels).map(|_| odd_label(random)).collect();
             labels.join(&b'.')
         }
+        4 => {
+            let labels = random.pick(&[20, 125, 126, 127]);
+            let star = if random.once_in(2) { "*" } else { "d" };
+            let deep = [star].into_iter().chain(std::iter::repeat("d"));
+            deep.take(labels).collect::<Vec<_>>().join(".").into_bytes()
+        }
         _ => {
             let mut labels = Vec::new();
             if random.once_in(6) {
@@ -117,9 +123,15 @@ pub fn borderline(random: &mut Random) -> Vec<u8> {
     }
 }
 
-/// A name on the wire, of the few labels or of any bytes.
+/// A name on the wire: of the few labels, of any bytes, or of many labels.
 pub fn wire(random: &mut Random) -> Vec<u8> {
     let mut wire = Vec::new();
+    if random.once_in(24) {
+        let labels = random.pick(&[2, 20, 125, 126, 127]);
+        wire = b"\x01d".repeat(labels);
+        wire.push(0);
+        return wire;
+    }
     for _ in 0..random.pick(&[0, 1, 1, 2, 2, 3, 4, 6]) {
         let label = if random.once_in(8) {
             let length = random.pick(&[1, 1, 2, 3, 62, 63]);
