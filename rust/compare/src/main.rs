@@ -1,4 +1,4 @@
-//! Runs the comparison: `compare [--cases N] [--seed N] [--only N]`.
+//! Runs the comparison: `compare [--cases N] [--seed N] [--only N] [--trace]`.
 
 use std::env;
 use std::process::ExitCode;
@@ -8,11 +8,12 @@ use compare::tally::Tally;
 use compare::{cases, edges};
 
 const USAGE: &str = "\
-compare [--cases N] [--seed N] [--only N]
+compare [--cases N] [--seed N] [--only N] [--trace]
 
 Compares the library with the second implementation on N made-up inputs
-(200000 without --cases) of a seed (1 without --seed). With --only, runs just
-the case of that number. Exit status: 0 no difference, 1 differences, 2 usage.";
+(500000 without --cases) of a seed (1 without --seed). With --only, runs just
+the case of that number. With --trace, names each case before it is run, to
+find one that crashes. Exit status: 0 no difference, 1 differences, 2 usage.";
 
 /// So many differences are shown before the run ends.
 const MOST_SHOWN: u64 = 5;
@@ -21,6 +22,7 @@ struct Options {
     cases: u64,
     seed: u64,
     only: Option<u64>,
+    trace: bool,
 }
 
 fn main() -> ExitCode {
@@ -44,6 +46,9 @@ fn main() -> ExitCode {
     let mut count = 0;
     for case in numbers {
         count += 1;
+        if options.trace {
+            eprintln!("case {case}");
+        }
         if let Err(difference) = cases::run(&REFERENCE, options.seed, case, &mut tally) {
             let seed = options.seed;
             println!("difference: compare --seed {seed} --only {case}\n{difference}");
@@ -63,12 +68,17 @@ fn main() -> ExitCode {
 
 fn options() -> Option<Options> {
     let mut options = Options {
-        cases: 200_000,
+        cases: 500_000,
         seed: 1,
         only: None,
+        trace: false,
     };
     let mut words = env::args().skip(1);
     while let Some(word) = words.next() {
+        if word == "--trace" {
+            options.trace = true;
+            continue;
+        }
         let number = words.next()?.parse().ok()?;
         match word.as_str() {
             "--cases" => options.cases = number,
