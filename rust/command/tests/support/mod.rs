@@ -1,0 +1,88 @@
+//! A folder for one test, and the command run in it.
+
+#![allow(dead_code)]
+
+use std::fs;
+use std::path::{Path, PathBuf};
+use std::process::Command;
+
+/// An empty folder, removed when the test ends well.
+pub struct Folder {
+    path: PathBuf,
+}
+
+/// What a run of the command left.
+#[derive(Debug)]
+pub struct Run {
+    pub status: i32,
+    pub out: String,
+    pub err: String,
+}
+
+impl Folder {
+    pub fn new(test: &str) -> Folder {
+        let path = Path::new(env!("CARGO_TARGET_TMPDIR")).join(test);
+        let _ = fs::remove_dir_all(&path);
+        fs::create_dir_all(&path).expect("a folder for the test");
+        Folder { path }
+    }
+
+    pub fn file(&self, name: &str) -> PathBuf {
+        self.path.join(name)
+    }
+
+    pub fn write(&self, name: &str, bytes: impl AsRef<[u8]>) {
+        fs::write(self.file(name), bytes).expect("a file for the test");
+    }
+
+    pub fn read(&self, name: &str) -> Vec<u8> {
+        fs::read(self.file(name)).expect("a file of the test")
+    }
+
+    /// The names in the folder, sorted.
+    pub fn names(&self) -> Vec<String> {
+        let entries = fs::read_dir(&self.path).expect("the test's folder");
+        let mut names: Vec<_> = entries
+            .map(|entry| entry.unwrap().file_name().into_string().unwrap())
+            .collect();
+        names.sort();
+        names
+    }
+
+    /// Runs the command with these words, in the folder.
+    pub fn run(&self, words: &[&str]) -> Run {
+        let output = Command::new(env!("CARGO_BIN_EXE_vahmizar"))
+            .args(words)
+            .current_dir(&self.path)
+            .output()
+            .expect("the command starts");
+        Run {
+            status: output.status.code().expect("no signal"),
+            out: String::from_utf8(output.stdout).unwrap(),
+            err: String::from_utf8(output.stderr).unwrap(),
+        }
+    }
+
+    /// Runs the command, which must succeed, and returns what it prints.
+    pub fn good(&self, words: &[&str]) -> String {
+        let run = self.run(words);
+        assert_eq!((run.status, &run.err[..]), (0, ""), "{words:?}");
+        run.out
+    }
+
+    /// Runs the command, which must fail so and print nothing else.
+    pub fn fails(&self, words: &[&str], status: i32) -> String {
+        let run = self.run(words);
+        assert_eq!((run.status, &run.out[..]), (status, ""), "{words:?}");
+        assert!(!run.err.is_empty());
+        run.err
+    }
+}
+
+impl Drop for Folder {
+    fn drop(&mut self) {
+        if !std::thread::panicking() {
+            let _ = fs::remove_dir_all(&self.path);
+        }
+    }
+}

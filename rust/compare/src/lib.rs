@@ -1,0 +1,22 @@
+//! Compares the proved library, through its C calls, with a second
+//! implementation of the same rules, on many made-up inputs.
+//!
+//! Each case is made from a seed and its number alone, so that it can be run
+//! again by itself.
+
+pub mod asking;
+pub mod borderline;
+pub mod cases;
+pub mod compiling;
+pub mod difference;
+pub mod edges;
+pub mod fields;
+pub mod guarded;
+pub mod hostile;
+pub mod lines;
+pub mod names;
+pub mod questions;
+pub mod random;
+pub mod reading;
+pub mod sources;
+pub mod tally;

@@ -1,0 +1,86 @@
+//! The other side of the comparison: a reading of the rules.
+
+/// A question as the comparison makes it.
+#[derive(Clone, Debug)]
+pub struct Asked {
+    /// The name on the wire.
+    pub name: Vec<u8>,
+    /// The record type.
+    pub record_type: u16,
+    /// The client's address.
+    pub client: Vec<u8>,
+    /// The moment.
+    pub moment: u64,
+}
+
+/// A record that the lines give as an answer.
+#[derive(Clone, Debug, PartialEq, Eq)]
+pub struct Given {
+    /// The record type.
+    pub record_type: u16,
+    /// The lifetime.
+    pub lifetime: u32,
+    /// Sizes of this record and all before it, summed.
+    pub end: u64,
+    /// The record data.
+    pub data: Vec<u8>,
+}
+
+/// The answer that the lines give to a question, or the refusal's number.
+pub type Meant = Result<Vec<Given>, u64>;
+
+/// A second implementation, or an edited copy of it.
+#[derive(Clone, Copy)]
+pub struct Reading {
+    /// What it is called in messages.
+    pub name: &'static str,
+    /// Compiles a source.
+    pub compile: fn(&[u8], u32, &mut [u8]) -> [u64; 4],
+    /// Asks for the record at an ordinal.
+    pub ask: fn(&[u8], &Asked, u64) -> [u64; 5],
+    /// Answers questions from the lines of an accepted source.
+    pub meaning: fn(&[u8], u32, &[Asked]) -> Vec<Meant>,
+}
+
+/// Makes a [`Reading`] of a module with the names of the crate `reference`.
+#[macro_export]
+macro_rules! reading {
+    ($name:expr, $($module:ident)::+) => {
+        $crate::reading::Reading {
+            name: $name,
+            compile: |source, serial, out| $($module)::+::compile(source, serial, out).numbers(),
+            ask: |records, asked, ordinal| {
+                let question = $($module)::+::Question {
+                    name: &asked.name,
+                    record_type: asked.record_type,
+                    client: &asked.client,
+                    moment: asked.moment,
+                };
+                $($module)::+::ask(records, &question, ordinal).numbers()
+            },
+            meaning: |source, serial, asked| {
+                let records = $($module)::+::records(source, serial).expect("an accepted source");
+                let meant = |asked: &$crate::reading::Asked| {
+                    let question = $($module)::+::Question {
+                        name: &asked.name,
+                        record_type: asked.record_type,
+                        client: &asked.client,
+                        moment: asked.moment,
+                    };
+                    let given = $($module)::+::meaning::answers(&records, &question)?;
+                    let given = given.into_iter().map(|given| $crate::reading::Given {
+                        record_type: given.record_type,
+                        lifetime: given.lifetime,
+                        end: given.end,
+                        data: given.data,
+                    });
+                    Ok(given.collect())
+                };
+                asked.iter().map(meant).collect()
+            },
+        }
+    };
+}
+
+/// The second implementation as it is.
+pub const REFERENCE: Reading = reading!("reference", reference);

@@ -1,0 +1,96 @@
+//! Holds the record part of data.cdb, as the real tinydns-data writes it, to
+//! what compiling gives. TINYDNS_DATA names the program; without it the test
+//! says that it is skipped.
+
+use std::env;
+use std::ffi::OsString;
+use std::fs;
+use std::path::Path;
+use std::process::Command;
+use std::time::{Duration, UNIX_EPOCH};
+
+use compare::difference::{first_difference, literal};
+use compare::random::Random;
+use compare::sources;
+
+/// The program takes the source's modification time as serial.
+const SERIAL: u32 = 1_234_567_890;
+/// The pairs of table positions and counts before the records.
+const HEAD: usize = 2_048;
+const SOURCES: u64 = 300;
+
+/// The typical file of the program's manual.
+const TYPICAL: &[u8] = b"=lion.heaven.af.mil:1.2.3.4
+@heaven.af.mil:1.2.3.4
+@3.2.1.in-addr.arpa:1.2.3.4
+
+=tiger.heaven.af.mil:1.2.3.5
+.heaven.af.mil:1.2.3.5:a
+.3.2.1.in-addr.arpa:1.2.3.5:a
+
+=bear.heaven.af.mil:1.2.3.6
+.heaven.af.mil:1.2.3.6:b
+.3.2.1.in-addr.arpa:1.2.3.6:b
+
+=cheetah.heaven.af.mil:1.2.3.248
+=panther.heaven.af.mil:1.2.3.249
+";
+
+#[test]
+fn records_are_those_of_tinydns_data() {
+    let Some(program) = env::var_os("TINYDNS_DATA") else {
+        println!("skipped: TINYDNS_DATA names no tinydns-data");
+        return;
+    };
+    same_records(&program, TYPICAL);
+    let mut compared = 1;
+    for case in 0..SOURCES {
+        let mut random = Random::of_case(2, case);
+        let count = random.within(1, 40);
+        let source = sources::classic(count, &mut random);
+        // Names put together from good ones may still be too long.
+        if vahmizar::check(&source, SERIAL).is_ok() {
+            same_records(&program, &source);
+            compared += 1;
+        }
+    }
+    assert!(compared > SOURCES / 2, "only {compared} sources compared");
+    println!("tinydns-data: {compared} sources have the same records");
+}
+
+fn same_records(program: &OsString, source: &[u8]) {
+    let theirs = record_part(program, source);
+    let ours = vahmizar::compile_to_vec(source, SERIAL).expect("a good source");
+    assert!(
+        ours == theirs,
+        "{}\n  source: {}",
+        first_difference(&theirs, &ours),
+        literal(source)
+    );
+    let mut second = vec![0; ours.len()];
+    reference::compile(source, SERIAL, &mut second);
+    assert!(second == theirs, "the second implementation differs");
+}
+
+/// Runs the program on a source and cuts the records out of its database.
+fn record_part(program: &OsString, source: &[u8]) -> Vec<u8> {
+    let folder = Path::new(env!("CARGO_TARGET_TMPDIR")).join("tinydns_data");
+    fs::create_dir_all(&folder).expect("a folder");
+    let data = folder.join("data");
+    fs::write(&data, source).expect("a source");
+    let time = UNIX_EPOCH + Duration::from_secs(SERIAL.into());
+    let file = fs::File::options().write(true).open(&data);
+    file.and_then(|file| file.set_modified(time))
+        .expect("the serial as time");
+    let output = Command::new(program)
+        .current_dir(&folder)
+        .output()
+        .expect("TINYDNS_DATA starts");
+    let said = String::from_utf8_lossy(&output.stderr);
+    let shown = literal(source);
+    assert!(output.status.success(), "{said}\n  source: {shown}");
+    let database = fs::read(folder.join("data.cdb")).expect("data.cdb");
+    // The first table stands right behind the records.
+    let end = u32::from_le_bytes(database[..4].try_into().unwrap());
+    database[HEAD..end as usize].to_vec()
+}

@@ -1,0 +1,25 @@
+//! A second implementation of the rules for tinydns data, written from the
+//! rules alone. It exists to be compared with the proved library and shares
+//! no code with it or with its wrapper.
+//!
+//! * [`compile()`] turns a source into record bytes;
+//! * [`ask()`] answers a question over record bytes;
+//! * [`meaning::answers`] answers it from the lines themselves, without bytes.
+
+pub mod ask;
+pub mod compile;
+pub mod fault;
+pub mod fields;
+pub mod line;
+pub mod meaning;
+pub mod name;
+pub mod question;
+pub mod record;
+pub mod source;
+pub mod stream;
+pub mod values;
+
+pub use ask::{ask, AskAnswer};
+pub use compile::{compile, CompileAnswer};
+pub use question::Question;
+pub use source::records;

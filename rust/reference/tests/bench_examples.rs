@@ -1,0 +1,132 @@
+//! The bench examples B1 to B12.
+
+mod support;
+use support::*;
+
+#[test]
+fn b1_empty_source() {
+    assert_eq!(answer(b"", 0), [0, 0, 0, 0]);
+}
+
+const B2: &[u8] = b"+a.b:192.0.2.1";
+const B2_BYTES: [u8; 32] = [
+    5, 0, 0, 0, 0x13, 0, 0, 0, 1, 0x61, 1, 0x62, 0, 0, 1, 0x3d, 0, 1, 0x51, 0x80, 0, 0, 0, 0, 0, 0,
+    0, 0, 0xc0, 0, 2, 1,
+];
+
+#[test]
+fn b2_one_record() {
+    assert_eq!(compiled(B2), B2_BYTES);
+}
+
+#[test]
+fn b3_a_byte_too_little() {
+    let mut out = [0xaa; 31];
+    let answer = reference::compile(B2, 0, &mut out);
+    assert_eq!(answer.numbers(), [13, 0, 0, 32]);
+    assert_eq!(out, [0xaa; 31]);
+}
+
+#[test]
+fn b4_host() {
+    let source = b"=button.panic.mil:1.8.7.108";
+    let address = (1, 86_400, vec![1, 8, 7, 108]);
+    assert_eq!(asked(source, "button.panic.mil"), [address]);
+    let pointer = (12, 86_400, wire("button.panic.mil"));
+    assert_eq!(asked(source, "108.7.8.1.in-addr.arpa"), [pointer]);
+    assert_eq!(count(source), 2);
+}
+
+#[test]
+fn b5_name_server_elsewhere() {
+    let source = b".panic.mil::a.ns.heaven.af.mil";
+    let numbers = [SERIAL, 16_384, 2_048, 1_048_576, 2_560].map(u32::to_be_bytes);
+    let server = wire("a.ns.heaven.af.mil");
+    let contact = wire("hostmaster.panic.mil");
+    let soa = [server.clone(), contact, numbers.concat()].concat();
+    let expected = [(6, 2_560, soa), (2, 259_200, server)];
+    assert_eq!(asked(source, "panic.mil"), expected);
+    assert_eq!(count(source), 2);
+}
+
+#[test]
+fn b6_mail_exchanger() {
+    let source = b"@heaven.af.mil:1.2.3.4";
+    let data = [vec![0, 0], wire("mx.heaven.af.mil")].concat();
+    assert_eq!(asked(source, "heaven.af.mil"), [(15, 86_400, data)]);
+    let address = (1, 86_400, vec![1, 2, 3, 4]);
+    assert_eq!(asked(source, "mx.heaven.af.mil"), [address]);
+}
+
+#[test]
+fn b7_service() {
+    let source = b"S_sip._udp.slocombe.example:203.0.113.88:a:5060:10:20";
+    let numbers = vec![0, 0x0a, 0, 0x14, 0x13, 0xc4];
+    let server = "a.srv._sip._udp.slocombe.example";
+    let data = [numbers, wire(server)].concat();
+    let expected = [(33, 86_400, data)];
+    assert_eq!(asked(source, "_sip._udp.slocombe.example"), expected);
+    assert_eq!(asked(source, server), [(1, 86_400, vec![203, 0, 113, 88])]);
+}
+
+#[test]
+fn b8_bad_octet() {
+    assert_eq!(refused(b"+a:1.2.3.256"), (6, 1, 2));
+}
+
+#[test]
+fn b9_first_bad_line() {
+    let source = b"+a:1.2.3.4\n!\n+b:1.2.3.4\n!";
+    assert_eq!(refused(source), (3, 2, 0));
+}
+
+#[test]
+fn b10_switch_at_a_second() {
+    let source = b"+w:192.0.2.234:0:4000000038af1379\n+w:192.0.2.235::4000000038af1379";
+    let time = 0x4000_0000_38af_1379;
+    let at = |moment| asked_as(source, "w", 255, &[1, 2, 3, 4], moment);
+    assert_eq!(at(time - 1), [(1, 2, vec![192, 0, 2, 234])]);
+    assert_eq!(at(time), [(1, 86_400, vec![192, 0, 2, 235])]);
+}
+
+#[test]
+fn b11_longest_prefix_wherever_it_stands() {
+    let source = b"+j:192.168.1.2:::in\n+j:1.2.3.4:::ex\n%in:192.168\n%ex";
+    let from = |client| asked_as(source, "j", 1, client, NOW);
+    assert_eq!(from(&[192, 168, 7, 7]), [(1, 86_400, vec![192, 168, 1, 2])]);
+    assert_eq!(from(&[192, 0, 2, 9]), [(1, 86_400, vec![1, 2, 3, 4])]);
+}
+
+#[test]
+fn b12_wildcard_and_deeper_name() {
+    let source = b"+pink.floyd.u.heaven.af.mil:1.2.3.4\n+*.u.heaven.af.mil:1.2.3.200";
+    let wildcard = [(1, 86_400, vec![1, 2, 3, 200])];
+    for name in ["joe", "floyd", "joe.bob", "sally.floyd", "post.pink.floyd"] {
+        let name = format!("{name}.u.heaven.af.mil");
+        assert_eq!(asked(source, &name), wildcard, "{name}");
+    }
+    let own = [(1, 86_400, vec![1, 2, 3, 4])];
+    assert_eq!(asked(source, "pink.floyd.u.heaven.af.mil"), own);
+    assert_eq!(asked(source, "u.heaven.af.mil"), []);
+}
+
+#[test]
+fn typical_file_of_the_old_manual() {
+    let source = b"=lion.heaven.af.mil:1.2.3.4
+@heaven.af.mil:1.2.3.4
+@3.2.1.in-addr.arpa:1.2.3.4
+
+=tiger.heaven.af.mil:1.2.3.5
+.heaven.af.mil:1.2.3.5:a
+.3.2.1.in-addr.arpa:1.2.3.5:a
+
+=bear.heaven.af.mil:1.2.3.6
+.heaven.af.mil:1.2.3.6:b
+.3.2.1.in-addr.arpa:1.2.3.6:b
+
+=cheetah.heaven.af.mil:1.2.3.248
+=panther.heaven.af.mil:1.2.3.249
+";
+    assert_eq!(count(source), 26);
+    assert_eq!(asked(source, "heaven.af.mil").len(), 5);
+}
