@@ -1,0 +1,40 @@
+use Rattle.console.proofs.Fronts.{front·laws}
+use Rattle.console.proofs.arguments.argument.Statement.{statement}
+use Rattle.console.proofs.arguments.argument.Tie as tie
+
+arg-requires : tie.Need-arg-requires
+arg-requires c κs = search front·laws
+
+errno-requires : tie.Need-errno-requires
+errno-requires c κs = search front·laws
+
+slice-aggregate-fail : tie.Need-slice-aggregate-fail
+slice-aggregate-fail c = search front·laws
+
+fail-requires : tie.Need-fail-requires
+fail-requires c κs = search front·laws
+
+same-length : tie.Need-same-length
+same-length c = search front·laws
+
+returns : tie.Need-returns
+returns c = search front·laws
+
+same-length-2 : tie.Need-same-length-2
+same-length-2 c = search front·laws
+
+returns-2 : tie.Need-returns-2
+returns-2 c = search front·laws
+
+pub argument-spec : {M : Type 1} → statement M
+argument-spec =
+    tie.close
+    (tie.spec
+    arg-requires
+    errno-requires
+    slice-aggregate-fail
+    fail-requires
+    same-length
+    returns
+    same-length-2
+    returns-2)
