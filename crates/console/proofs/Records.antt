@@ -40,23 +40,25 @@ fits s serial room a e d = by (judgeSource s) (isDone (judgeSource s .fault)) re
     by j false q p = absurd (both (isDone (a .fault)) d (unfold pick in ap (λ (x : Answer). isDone (x .fault)) p ∙ q))
 
 module _ (s : List ℕ) (serial : ℕ) (out out′ : List ℕ) (a : Answer) (done : Bool) (e : IsCompiled s serial out out′ a) (f : done ≡ isDone (a .fault)) where
-  pub refused : not done ≡ true → IsRecords s serial out out′ (record { whole = false; len = 0 })
+  pub refused : not done ≡ true → IsRecords s serial out out′ (record { answer = a; front = record { whole = false; len = 0 } })
   unfolding frontOf pick
   refused t =
       let q : isDone (a .fault) ≡ false = sym f ∙ not-true done t in
       record {
-        answer = rw (← (e .answer), q);
+        answer = e .answer;
+        front = rw q;
         output = e .output;
         isFront = record { counts = (omega arith, refl); wholeOrNone = λ _. refl };
       }
 
-  pub compiled : not done ≡ false → length out′ ≡ length out → IsRecords s serial out out′ (record { whole = true; len = a .bytes })
+  pub compiled : not done ≡ false → length out′ ≡ length out → IsRecords s serial out out′ (record { answer = a; front = record { whole = true; len = a .bytes } })
   unfolding frontOf pick
   compiled t l =
       let q : isDone (a .fault) ≡ true = sym f ∙ not-false done t in
       let b : a .bytes ≤ length out = fits s serial (length out) a (e .answer) q in
       record {
-        answer = rw (← (e .answer), q);
+        answer = e .answer;
+        front = rw q;
         output = e .output;
         isFront = whole out′ (a .bytes) (omega arith, front-count out′ (a .bytes) (length out) l b);
       }

@@ -9,6 +9,7 @@ use Rattle.rules.specs.Lists.{pick}
 use Rattle.rules.specs.Answers.{isDone, compileAnswer, compileOutput}
 use Rattle.rules.specs.declared.faults.Answer.{Answer}
 use Rattle.io.specs.Counts.{Counts}
+use Rattle.console.specs.declared.compiled.Compiled.{Compiled}
 use Rattle.console.specs.declared.files.Front.{Front}
 use Rattle.console.specs.declared.arguments.SerialRead.{SerialRead}
 
@@ -25,7 +26,8 @@ serialRead SerialRead.Bad = none
 unfoldable pub frontOf : Answer → Front
 frontOf a = record { whole = isDone (a .fault); len = pick (isDone (a .fault)) (a .bytes) 0 }
 
-pub record IsRecords (source : List ℕ) (serial : ℕ) (out out′ : List ℕ) (r : Front) : Type 0 where
-  pub answer : r ≡ frontOf (compileAnswer source serial (length out))
+pub record IsRecords (source : List ℕ) (serial : ℕ) (out out′ : List ℕ) (r : Compiled) : Type 0 where
+  pub answer : r .answer ≡ compileAnswer source serial (length out)
+  pub front : r .front ≡ frontOf (r .answer)
   pub output : out′ ≡ compileOutput source serial out
-  pub isFront : IsFront out′ r
+  pub isFront : IsFront out′ (r .front)

@@ -6,25 +6,33 @@ use crate::files::Front;
 use crate::files::read_file;
 use crate::reports::refuse_source;
 use compiler::compile::compile;
+use rules::faults::Answer;
 use rules::faults::is_done;
 
-// A source compiled into the buffer that is lent; where it is refused, standard error has its path, the place and the number.
-pub fn compile_named(path: &[u8], source: &[u8], serial: u32, out: &mut [u8]) -> Front
+// What compiling answered, and the records that it left at the front of the buffer.
+pub struct Compiled {
+    pub answer: Answer,
+    pub front: Front,
+}
+
+// A source compiled into the buffer that is lent.
+pub fn compile_into(source: &[u8], serial: u32, out: &mut [u8]) -> Compiled
     ensures { λ r. ⌜ IsRecords (now (source .entry)) serial (now (out .entry)) (now (out .exit)) r ⌝ }
 {
     let answer = compile(source, serial, out);
     let fault = answer.fault;
     if !is_done(fault) {
-        refuse_source(path, answer);
-        return Front {
+        let front = Front {
             whole: false,
             len: 0,
         };
+        return Compiled { answer, front };
     }
-    Front {
+    let front = Front {
         whole: true,
         len: answer.bytes,
-    }
+    };
+    Compiled { answer, front }
 }
 
 // 3,145,728 zeros: room for the records of any file of 65,536 bytes. The most that such a file gives is 2,883,594 bytes: of all lines the
@@ -35,7 +43,8 @@ pub fn records_buffer() -> [u8; 3145728]
     [0; 3145728]
 }
 
-// The file of this path compiled, where it has at most 65,536 bytes.
+// The file of this path compiled into the buffer that is lent, where it has at most 65,536 bytes. Where it can't be read or is refused,
+// standard error has the reason.
 pub fn compile_file(path: &[u8], serial: u32, out: &mut [u8]) -> Front
     ensures { λ r. ⌜ IsFront (now (out .exit)) r ⌝ }
 {
@@ -49,5 +58,12 @@ pub fn compile_file(path: &[u8], serial: u32, out: &mut [u8]) -> Front
             len: 0,
         };
     }
-    compile_named(path, &source[..len], serial, out)
+    let compiled = compile_into(&source[..len], serial, out);
+    let front = compiled.front;
+    let done = front.whole;
+    if !done {
+        let answer = compiled.answer;
+        refuse_source(path, answer);
+    }
+    front
 }

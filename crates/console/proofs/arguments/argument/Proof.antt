@@ -1,4 +1,5 @@
 use Rattle.console.proofs.Fronts.{front·laws}
+use borrow.Author.Needs.{needs}
 use Rattle.console.proofs.arguments.argument.Statement.{statement}
 use Rattle.console.proofs.arguments.argument.Tie as tie
 
@@ -8,11 +9,8 @@ arg-requires c κs = search front·laws
 errno-requires : tie.Need-errno-requires
 errno-requires c κs = search front·laws
 
-slice-aggregate-fail : tie.Need-slice-aggregate-fail
-slice-aggregate-fail c = search front·laws
-
-fail-requires : tie.Need-fail-requires
-fail-requires c κs = search front·laws
+refuse-argument-requires : tie.Need-refuse-argument-requires
+refuse-argument-requires c κs = search front·laws
 
 same-length : tie.Need-same-length
 same-length c = search front·laws
@@ -32,8 +30,7 @@ argument-spec =
     (tie.spec
     arg-requires
     errno-requires
-    slice-aggregate-fail
-    fail-requires
+    refuse-argument-requires
     same-length
     returns
     same-length-2
