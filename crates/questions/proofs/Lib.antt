@@ -1,0 +1,3 @@
+pub mod MomentDigits
+pub mod Spacing
+pub mod Reading
