@@ -6,7 +6,6 @@ mod print;
 use compiler::ends::line_length;
 use console::arguments::SerialRead;
 use console::arguments::argument;
-use console::arguments::refuse_serial;
 use console::arguments::serial;
 use console::compiled::compile_file;
 use console::compiled::records_buffer;
@@ -68,9 +67,7 @@ fn read_serial() -> SerialRead {
 fn with_serial(path: &[u8]) {
     match read_serial() {
         SerialRead::Good(value) => compile_and_ask(path, value),
-        SerialRead::Bad => {
-            refuse_serial();
-        },
+        SerialRead::Bad => {},
     }
 }
 

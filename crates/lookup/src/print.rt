@@ -1,4 +1,7 @@
 // The answer to a question, printed.
+ghost use Prim.Native.Nat.{_+_, _≤_};
+ghost use lib.ListN.{length};
+ghost use Rattle.questions.specs.Places.{Inside};
 use console::hex::print_hex;
 use console::words::print_words;
 use libc::STDERR_FILENO;
@@ -9,24 +12,16 @@ use rules::quantities::Ttl;
 use rules::replies::Reply;
 use rules::replies::reply_number;
 
-// Bytes of the records, in hexadecimal digits.
-fn print_part(records: &[u8], place: usize, length: usize) {
-    let n = records.len();
-    if place <= n {
-        if length <= n - place {
-            let end = place + length;
-            print_hex(STDOUT_FILENO, &records[place..end]);
-        }
-    }
-}
-
-fn print_record(records: &[u8], rtype: u16, lifetime: Ttl, place: usize, length: usize) {
+fn print_record(records: &[u8], rtype: u16, lifetime: Ttl, place: usize, size: usize)
+    requires { ⌜ place + size ≤ length (now records) ⌝ }
+{
+    let end = place + size;
     io::write_all(STDOUT_FILENO, b"  ");
     io::print_decimal(STDOUT_FILENO, rtype as u64);
     io::write_all(STDOUT_FILENO, b" ");
     io::print_decimal(STDOUT_FILENO, lifetime.0 as u64);
     io::write_all(STDOUT_FILENO, b" ");
-    print_part(records, place, length);
+    print_hex(STDOUT_FILENO, &records[place..end]);
     io::write_all(STDOUT_FILENO, b"\n");
 }
 
@@ -37,7 +32,9 @@ fn print_refusal(number: u64) {
 }
 
 // Whether more may follow.
-fn print_reply(records: &[u8], reply: Reply, ordinal: u64) -> bool {
+fn print_reply(records: &[u8], reply: Reply, ordinal: u64) -> bool
+    requires { ⌜ Inside (now records) reply ⌝ }
+{
     match reply {
         Reply::Found {
             rtype,

@@ -1,3 +1,4 @@
 pub mod Questions
 pub mod Views
 pub mod Replies
+pub mod Places
