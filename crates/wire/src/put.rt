@@ -4,8 +4,10 @@ ghost use mathlib.Core.List.{[], _∷_, map};
 ghost use Prim.Native.Nat.{_≤_};
 ghost use lib.ListN.{length};
 ghost use Rattle.rules.specs.Lists.{lower, be, le};
+ghost use Rattle.wire.specs.Letters.{Lowers};
 ghost use Rattle.wire.specs.Put.{IsPut};
-use crate::letters::lowered;
+use crate::letters::letter_table;
+use crate::letters::lowered_by;
 
 pub fn put_byte(out: &mut [u8], b: u8) -> usize
     requires { ⌜ 1 ≤ length (now out) ⌝ }
@@ -40,18 +42,28 @@ pub fn put_bytes(out: &mut [u8], source: &[u8]) -> usize
     n
 }
 
-pub fn put_lowered(out: &mut [u8], source: &[u8]) -> usize
+fn put_by(out: &mut [u8], source: &[u8], table: &[u8]) -> usize
     requires { ⌜ length (now source) ≤ length (now out) ⌝ }
+    requires { ⌜ Lowers (now table) ⌝ }
     ensures { λ r. ⌜ IsPut (map lower (now (source .entry))) (now (out .entry)) (now (out .exit)) r ⌝ }
     ensures { λ r. ⌜ r ≡ length (now (source .entry)) ⌝ }
 {
     let n = source.len();
     let mut i: usize = 0;
     while i < n {
-        out[i] = lowered(source[i]);
+        out[i] = lowered_by(table, source[i]);
         i += 1;
     }
     n
+}
+
+pub fn put_lowered(out: &mut [u8], source: &[u8]) -> usize
+    requires { ⌜ length (now source) ≤ length (now out) ⌝ }
+    ensures { λ r. ⌜ IsPut (map lower (now (source .entry))) (now (out .entry)) (now (out .exit)) r ⌝ }
+    ensures { λ r. ⌜ r ≡ length (now (source .entry)) ⌝ }
+{
+    let table = letter_table();
+    put_by(out, source, &table)
 }
 
 // The lowest bytes of n, as many as width says, the highest of them first.

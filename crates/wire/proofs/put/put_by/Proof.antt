@@ -5,23 +5,23 @@ use lib.ListN.{length, take, drop}
 use Rattle.rules.specs.Lists.{lower}
 use borrow.Author.Needs.{needs}
 use Rattle.wire.proofs.Puts.{more, whole}
-use Rattle.wire.proofs.put.put_lowered.Statement.{statement}
-use Rattle.wire.proofs.put.put_lowered.Tie as tie
+use Rattle.wire.proofs.put.put_by.Statement.{statement}
+use Rattle.wire.proofs.put.put_by.Tie as tie
 
 abbrev Inv-loop : tie.InvT-loop
-Inv-loop out₀ source n i₀ out i = (i ≤ length source) × (length out ≡ length out₀) × (out ≡ map lower (take i source) ++ drop i out₀)
+Inv-loop out₀ source table n i₀ out i = (i ≤ length source) × (length out ≡ length out₀) × (out ≡ map lower (take i source) ++ drop i out₀)
 
 abbrev μ-loop : tie.MeasureT-loop
-μ-loop out₀ source n i₀ out i = length source - i
+μ-loop out₀ source table n i₀ out i = length source - i
 
 loop-holds : tie.Need-loop-holds Inv-loop μ-loop
 loop-holds c = search needs
 
-shared-slice-read-lowered : tie.Need-shared-slice-read-lowered Inv-loop μ-loop
-shared-slice-read-lowered c = search needs
+shared-slice-read-lowered-by : tie.Need-shared-slice-read-lowered-by Inv-loop μ-loop
+shared-slice-read-lowered-by c = search needs
 
-lowered-requires : tie.Need-lowered-requires Inv-loop μ-loop
-lowered-requires c κs = search needs
+lowered-by-requires : tie.Need-lowered-by-requires Inv-loop μ-loop
+lowered-by-requires c κs = search needs
 
 slice-write-out : tie.Need-slice-write-out Inv-loop μ-loop
 slice-write-out c = search needs
@@ -41,15 +41,15 @@ same-length c = search needs
 returns : tie.Need-returns Inv-loop μ-loop
 returns c = search (needs, whole lower)
 
-pub put-lowered-spec : {M : Type 1} → statement M
-put-lowered-spec =
+pub put-by-spec : {M : Type 1} → statement M
+put-by-spec =
     tie.close
     (tie.spec
     Inv-loop
     μ-loop
     loop-holds
-    shared-slice-read-lowered
-    lowered-requires
+    shared-slice-read-lowered-by
+    lowered-by-requires
     slice-write-out
     add-i
     loop-less
