@@ -1,6 +1,7 @@
 // The calls that a name server makes, and both together. specs/Promises.antt says what each promises.
 ghost use Rattle.vahmizar.specs.Promises.{Compiles, Asks};
 
+pub mod both;
 mod numbers;
 
 use compiler::compile::compile;
