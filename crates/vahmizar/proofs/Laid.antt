@@ -16,7 +16,7 @@ use Rattle.rules.specs.declared.quantities.Ttl.{Ttl}
 use Rattle.rules.specs.declared.replies.Reply.{Reply}
 use Rattle.rules.specs.declared.replies.AskFault.{AskFault}
 use Rattle.compiler.specs.Compiled.{IsCompiled}
-use Rattle.wire.specs.Put.{IsPut}
+use Rattle.buffer.specs.Put.{IsPut}
 use Rattle.vahmizar.specs.Promises.{laid, Compiles, Asks}
 
 -- bytes put that fill the whole of what was lent

@@ -5,11 +5,11 @@ ghost use Prim.Native.Nat.{_≤_};
 ghost use lib.ListN.{length};
 ghost use Rattle.rules.specs.Lists.{le};
 ghost use Rattle.rules.specs.Reading.{replyNumber, replyNumbers};
-ghost use Rattle.wire.specs.Put.{IsPut};
+ghost use Rattle.buffer.specs.Put.{IsPut};
 ghost use Rattle.vahmizar.specs.Promises.{laid};
+use buffer::put::put_le;
 use rules::replies::Reply;
 use rules::replies::reply_number;
-use wire::put::put_le;
 
 fn put_pair(out: &mut [u8], a: u64, b: u64) -> usize
     requires { ⌜ 16 ≤ length (now out) ⌝ }
