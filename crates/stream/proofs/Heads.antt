@@ -40,7 +40,7 @@ module _ (bytes : List ℕ) where
   unfolding fits
   fitted q = leb-true (sizeAt bytes) (length bytes) (both-right (leb 8 (length bytes)) (leb (sizeAt bytes) (length bytes)) q)
 
-  malformed : length bytes < 8 → recordAt bytes ≡ none
+  pub malformed : length bytes < 8 → recordAt bytes ≡ none
   unfolding recordAt fits pick
   malformed h = rw (lt-leb 8 (length bytes) h)
 
