@@ -1,53 +1,23 @@
 -- The records of the largest rank and of a type are the answer of the rules.
 use mathlib.Core.Path.{_≡_, refl, ap, _∙_, sym}
-use mathlib.Core.Bool.{Bool, true, false, not, _&&_}
+use mathlib.Core.Bool.{Bool, true, false, _&&_}
 use mathlib.Core.List.{List, [], _∷_, map}
-use Prim.Native.Nat.{ℕ, zero, suc, _+_, _≤_, max}
+use Prim.Native.Nat.{ℕ, _+_, max}
 use native.Mathlib.Omega.{arith}
 use borrow.Author.Needs.{needs}
 use borrow.Author.Tests.{eq-eqb, ne-eqb}
-use mir.Facts.{yes-and, yes-leb}
-use lib.Arith.{lt→nleb}
-use lib.ListN.{length-map}
-use lib.Dec.{T, eqb, leb}
+use lib.Dec.{eqb}
 use Rattle.rules.specs.declared.replies.Reply.{Reply}
 use Rattle.rules.specs.Lists.{pick, keep, lower}
-use Rattle.rules.specs.Names.{labels, isWire}
+use Rattle.rules.specs.Names.{isWire}
 use Rattle.rules.specs.Records.{Record}
 use Rattle.rules.specs.Bytes.{size}
 use Rattle.rules.specs.Questions.{Placed, placedFrom, visible, level, ofType}
 use Rattle.rules.specs.Reading.{replyOf}
-use Rattle.rules.proofs.Tests.{tests}
-use Rattle.rules.proofs.Names.{Wire, wire-of, labels-of, short-of}
-use Rattle.rules.proofs.Decoding.{lower-fixed}
-use Rattle.reader.specs.Ranks.{rankOf, largest, chosen, seenRank}
+use Rattle.rules.proofs.Decoding.{wire-lower}
+use Rattle.level.specs.Ranks.{rankOf, largest, chosen, seenRank}
 use Rattle.reader.specs.Answers.{wanted, pickedFrom, answeredFrom}
-use Rattle.reader.proofs.Levels.{level-is}
-
--- ---- the asked name, lowered, is a name still
-
-below-letters : (b : ℕ) → b ≤ 63 → lower b ≡ b
-below-letters b h = lower-fixed b (go (leb 65 b) (leb b 90) (lt→nleb 65 b (omega arith)))
-  where
-    go : (a b : Bool) → T (not a) → T (not (a && b))
-    go true b t = absurd t
-    go false b t = tt
-
-labels-lowered : (k : ℕ) (n : List ℕ) → T (labels k n) → T (labels k (map lower n))
-unfolding labels
-labels-lowered zero [] t = t
-labels-lowered zero (zero ∷ []) t = rw (below-letters 0 (omega arith)) tt
-labels-lowered zero (zero ∷ x ∷ n) t = absurd t
-labels-lowered zero (suc k ∷ n) t =
-    let h : suc k ≤ 63 = search tests in
-    rw (below-letters (suc k) h) (yes-and (leb (suc k) 63) _ (yes-leb h) (labels-lowered (suc k) n (search tests)))
-labels-lowered (suc k) [] t = t
-labels-lowered (suc k) (x ∷ n) t = labels-lowered k n t
-
-wire-lowered : (n : List ℕ) → isWire n ≡ true → Wire (map lower n)
-wire-lowered n e =
-    let t : Wire n = rw e tt in
-    wire-of (map lower n) (omega (arith, length-map n lower, short-of n t)) (labels-lowered 0 n (labels-of n t))
+use Rattle.level.proofs.Levels.{level-is}
 
 -- ---- level and type in one test
 
@@ -94,7 +64,7 @@ module _ (type : ℕ) (name here : List ℕ) (moment ordinal : ℕ) (rs : List R
   best-is = largest-seen type lname here moment (placedFrom 0 rs) ∙ largest-placed (seenRank lname here moment) 0 rs ∙ sym b
 
   level-best : level lname seen ≡ pick (eqb best 0) [] (keep (λ p. eqb (rankOf lname (p .rec)) best) seen)
-  level-best = level-is lname (wire-lowered name wire) seen ∙ unfold chosen in rw best-is
+  level-best = level-is lname (wire-lower name (rw wire tt)) seen ∙ unfold chosen in rw best-is
 
   pub no-level : best ≡ 0 → Reply.NoMore ≡ answeredFrom type lname here moment ordinal rs
   unfolding answeredFrom replyOf

@@ -25,7 +25,7 @@ use Rattle.stream.proofs.Heads.{decode-nil}
 use Rattle.reader.specs.declared.locate.Located.{Located}
 use Rattle.reader.specs.declared.locate.Judged.{Judged}
 use Rattle.reader.specs.Locations.{betterIn, locatedIn, locatedFrom, bestSeen, judgedLo}
-use Rattle.reader.proofs.Shapes.{shaped}
+use Rattle.stream.proofs.Shapes.{shaped}
 
 -- ---- a prefix
 

@@ -1,4 +1,2 @@
-pub mod Ranks
 pub mod Locations
-pub mod Views
 pub mod Answers

@@ -1,0 +1,6 @@
+pub mod Levels
+pub mod Viewing
+pub mod Ranking
+pub mod Related
+pub mod KeyRanks
+pub mod Bests
