@@ -2,6 +2,7 @@
 ghost use mathlib.Core.Path.{_≡_};
 ghost use mathlib.Core.Bool.{true, _||_};
 ghost use mathlib.Core.List.{[], map};
+ghost use lib.Dec.{eqb};
 ghost use Rattle.rules.specs.Lists.{lower, sameBytes, isSome, valueOr};
 ghost use Rattle.rules.specs.Records.{loBytes};
 ghost use Rattle.rules.specs.Questions.{ancestors};
@@ -15,9 +16,39 @@ use stream::head::span_at;
 use stream::record::Seen;
 use stream::record::record_in;
 use view::visible;
-use wire::get::same_lowered;
 use wire::get::wide;
 use wire::letters::lowered;
+
+// Whether a byte of a key is a byte with its letter lowered. It is computed: the table would be laid out anew for each byte.
+fn is_lowered(key: u8, b: u8) -> bool
+    ensures { λ r. ⌜ r ≡ eqb key (lower b) ⌝ }
+{
+    if b < 65 {
+        return key == b;
+    }
+    if 90 < b {
+        return key == b;
+    }
+    key == b + 32
+}
+
+// Whether a key is a name with its letters lowered.
+fn same_lowered(key: &[u8], name: &[u8]) -> bool
+    ensures { λ r. ⌜ r ≡ sameBytes (now (key .entry)) (map lower (now (name .entry))) ⌝ }
+{
+    let n = key.len();
+    if n != name.len() {
+        return false;
+    }
+    let mut i: usize = 0;
+    while i < n {
+        if !is_lowered(key[i], name[i]) {
+            return false;
+        }
+        i += 1;
+    }
+    true
+}
 
 // Whether a key is what stands behind some label of a name. An ancestor is shorter than the name.
 fn is_ancestor(name: &[u8], key: &[u8]) -> bool
