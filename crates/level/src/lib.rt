@@ -2,6 +2,8 @@
 ghost use mathlib.Core.Path.{_≡_};
 ghost use mathlib.Core.Bool.{true, _||_};
 ghost use mathlib.Core.List.{[], map};
+ghost use Prim.Native.Nat.{_≤_};
+ghost use lib.ListN.{length, drop};
 ghost use lib.Dec.{eqb};
 ghost use Rattle.rules.specs.Lists.{lower, sameBytes, isSome, valueOr};
 ghost use Rattle.rules.specs.Records.{loBytes};
@@ -78,7 +80,7 @@ fn is_ancestor(name: &[u8], key: &[u8]) -> bool
 }
 
 // Whether a record of this key can answer for a name at all. Then the name ends in the key; most keys are told by a byte.
-fn is_related(name: &[u8], key: &[u8]) -> bool
+pub fn is_related(name: &[u8], key: &[u8]) -> bool
     ensures { λ r. ⌜ r ≡ (sameBytes (now (key .entry)) (map lower (now (name .entry))) || among (now (key .entry)) (ancestors (map lower (now (name .entry))))) ⌝ }
 {
     let n = name.len();
@@ -135,14 +137,15 @@ pub fn rank_in(name: &[u8], here: Lo, moment: u64, key: &[u8], rdata: &[u8]) -> 
     }
 }
 
-// The largest rank in a stream of whole records.
-pub fn best_rank(stream: &[u8], name: &[u8], here: Lo, moment: u64) -> usize
-    requires { ⌜ isSome (decode (now stream)) ≡ true ⌝ }
-    ensures { λ r. ⌜ r ≡ largest (seenRank (map lower (now (name .entry))) (loBytes here) moment) (valueOr [] (decode (now (stream .entry)))) ⌝ }
+// The largest rank in a stream of whole records from a place on.
+pub fn best_rank(stream: &[u8], name: &[u8], here: Lo, moment: u64, from: usize) -> usize
+    requires { ⌜ from ≤ length (now stream) ⌝ }
+    requires { ⌜ isSome (decode (drop from (now stream))) ≡ true ⌝ }
+    ensures { λ r. ⌜ r ≡ largest (seenRank (map lower (now (name .entry))) (loBytes here) moment) (valueOr [] (decode (drop from (now (stream .entry))))) ⌝ }
 {
     let n = stream.len();
     let mut best: usize = 0;
-    let mut at: usize = 0;
+    let mut at = from;
     while at < n {
         let span = span_at(stream, at);
         let start = span.start;

@@ -44,8 +44,8 @@ pub fn ask(
     if !is_client(client) {
         return Reply::Refused(AskFault::Client);
     }
-    match judge_and_locate(records, client) {
+    match judge_and_locate(records, client, name) {
         Judged::Broken => Reply::Refused(AskFault::Records),
-        Judged::Whole(here) => answer(records, name, qtype, here, moment.0, ordinal),
+        Judged::Whole(here, from) => { answer(records, name, qtype, here, moment.0, ordinal, from) }
     }
 }

@@ -12,11 +12,11 @@ use Rattle.level.proofs.best_rank.Statement.{statement}
 use Rattle.level.proofs.best_rank.Tie as tie
 
 abbrev Inv-loop : tie.InvT-loop
-Inv-loop stream name here moment n best₀ at₀ best at = (at ≤ length stream) × (isSome (decode (drop at stream)) ≡ true)
-    × (max best (largest (seenRank (map lower name) (loBytes here) moment) (valueOr [] (decode (drop at stream)))) ≡ largest (seenRank (map lower name) (loBytes here) moment) (valueOr [] (decode stream)))
+Inv-loop stream name here moment from n best₀ at₀ best at = (at ≤ length stream) × (isSome (decode (drop at stream)) ≡ true)
+    × (max best (largest (seenRank (map lower name) (loBytes here) moment) (valueOr [] (decode (drop at stream)))) ≡ largest (seenRank (map lower name) (loBytes here) moment) (valueOr [] (decode (drop from stream))))
 
 abbrev μ-loop : tie.MeasureT-loop
-μ-loop stream name here moment n best₀ at₀ best at = length stream - at
+μ-loop stream name here moment from n best₀ at₀ best at = length stream - at
 
 loop-holds : tie.Need-loop-holds Inv-loop μ-loop
 loop-holds c = search best·laws
