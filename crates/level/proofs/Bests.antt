@@ -1,19 +1,24 @@
 -- The pass that finds the largest rank.
 use mathlib.Core.Path.{_≡_, refl, ap, _∙_}
-use mathlib.Core.Bool.{true}
-use mathlib.Core.List.{List, [], _∷_}
+use mathlib.Core.Bool.{Bool, true, false}
+use mathlib.Core.List.{List, [], _∷_, map}
 use mathlib.Core.Option.{Option, none, some}
 use Prim.Native.Nat.{ℕ, _-_, _<_, _≤_, max}
 use native.Mathlib.Omega.{arith}
 use borrow.Author.Needs.{needs}
 use lib.ListN.{length, take, drop, drop-of-length-le}
-use Rattle.rules.specs.Lists.{isSome, valueOr}
+use Rattle.rules.specs.Lists.{pick, lower, isSome, valueOr}
+use Rattle.rules.specs.Names.{isWire}
 use Rattle.rules.specs.Records.{Record}
+use Rattle.rules.specs.Questions.{visible}
 use Rattle.rules.specs.Reading.{recordIn, ontoRecords, decode}
+use Rattle.rules.proofs.Names.{Wire}
+use Rattle.rules.proofs.Decoding.{wire-lower}
 use Rattle.stream.specs.declared.head.Span.{Span}
 use Rattle.stream.specs.Spans.{part, IsSpan}
 use Rattle.stream.proofs.Heads.{decode-nil}
-use Rattle.level.specs.Ranks.{largest, seenRank, rankIn}
+use Rattle.level.specs.Ranks.{rankOf, largest, seenRank, rankIn}
+use Rattle.level.proofs.Levels.{most-rank}
 
 -- ---- a place of whole records
 
@@ -69,7 +74,23 @@ module _ (name here : List ℕ) (moment : ℕ) (stream : List ℕ) (best at all 
       let z : largest (seenRank name here moment) (valueOr [] (decode (drop at stream))) ≡ 0 = rw (drop-of-length-le stream h, decode-nil) in
       omega arith
 
+-- ---- the most that a rank can be
+
+most-seen : (name here : List ℕ) (moment : ℕ) → Wire name → (rs : List Record) → largest (seenRank name here moment) rs ≤ 256
+unfolding largest seenRank
+most-seen name here moment t [] = omega arith
+most-seen name here moment t (r ∷ rs) = omega (arith, go (visible here moment r), most-seen name here moment t rs)
+  where
+    go : (b : Bool) → pick b (rankOf name r) 0 ≤ 256
+    go true = unfold pick in most-rank name t r
+    go false = unfold pick in omega arith
+
+pub most : (name here : List ℕ) (moment : ℕ) (stream : List ℕ) (best at all : ℕ) → isWire name ≡ true
+    → max best (largest (seenRank (map lower name) here moment) (valueOr [] (decode (drop at stream)))) ≡ all → best ≡ 256 → best ≡ all
+most name here moment stream best at all w e h =
+    omega (arith, most-seen (map lower name) here moment (wire-lower name (rw w tt)) (valueOr [] (decode (drop at stream))))
+
 pub none-yet : (n : ℕ) → max 0 n ≡ n
 none-yet n = omega arith
 
-pub ruleset best·laws = (needs, none-yet, rest-whole, larger, no-larger, largest-found)
+pub ruleset best·laws = (needs, none-yet, rest-whole, larger, no-larger, largest-found, most)

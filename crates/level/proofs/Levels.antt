@@ -130,3 +130,14 @@ level-is name t ps =
     let d : Descending 256 (ancestorsFrom 0 name) = weaken (length name) 256 (ancestorsFrom 0 name) (omega (arith, short-of name t)) (descending 0 name (labels-of name t)) in
     one-more (λ p. ordinaryOf name (p .rec)) 256 (λ p. rankAmong (ancestorsFrom 0 name) (p .rec)) (λ p. rank-below 256 (ancestorsFrom 0 name) (omega arith) d (p .rec))
     ps (map (λ a. keep (λ p. wildcardOf a (p .rec)) ps) (ancestorsFrom 0 name)) (omega arith) (wildcards 256 (ancestorsFrom 0 name) d ps)
+
+-- no rank is above that of the name's own records
+pub most-rank : (name : List ℕ) → T (isWire name) → (r : Record) → rankOf name r ≤ 256
+unfolding rankOf ancestors pick
+most-rank name t r =
+    let d : Descending 256 (ancestorsFrom 0 name) = weaken (length name) 256 (ancestorsFrom 0 name) (omega (arith, short-of name t)) (descending 0 name (labels-of name t)) in
+    go (ordinaryOf name r) (rank-below 256 (ancestorsFrom 0 name) (omega arith) d r)
+  where
+    go : (b : Bool) → rankAmong (ancestorsFrom 0 name) r < 256 → pick b 256 (rankAmong (ancestorsFrom 0 name) r) ≤ 256
+    go true h = omega arith
+    go false h = omega arith

@@ -6,6 +6,7 @@ ghost use Prim.Native.Nat.{_≤_};
 ghost use lib.ListN.{length, drop};
 ghost use lib.Dec.{eqb};
 ghost use Rattle.rules.specs.Lists.{lower, sameBytes, isSome, valueOr};
+ghost use Rattle.rules.specs.Names.{isWire};
 ghost use Rattle.rules.specs.Records.{loBytes};
 ghost use Rattle.rules.specs.Questions.{ancestors};
 ghost use Rattle.rules.specs.Reading.{recordIn, decode};
@@ -137,8 +138,9 @@ pub fn rank_in(name: &[u8], here: Lo, moment: u64, key: &[u8], rdata: &[u8]) -> 
     }
 }
 
-// The largest rank in a stream of whole records from a place on.
+// The largest rank in a stream of whole records from a place on. None is above that of the name's own records.
 pub fn best_rank(stream: &[u8], name: &[u8], here: Lo, moment: u64, from: usize) -> usize
+    requires { ⌜ isWire (now name) ≡ true ⌝ }
     requires { ⌜ from ≤ length (now stream) ⌝ }
     requires { ⌜ isSome (decode (drop from (now stream))) ≡ true ⌝ }
     ensures { λ r. ⌜ r ≡ largest (seenRank (map lower (now (name .entry))) (loBytes here) moment) (valueOr [] (decode (drop from (now (stream .entry))))) ⌝ }
@@ -147,6 +149,9 @@ pub fn best_rank(stream: &[u8], name: &[u8], here: Lo, moment: u64, from: usize)
     let mut best: usize = 0;
     let mut at = from;
     while at < n {
+        if best == 256 {
+            return best;
+        }
         let span = span_at(stream, at);
         let start = span.start;
         let middle = span.middle;

@@ -21,6 +21,9 @@ abbrev μ-loop : tie.MeasureT-loop
 loop-holds : tie.Need-loop-holds Inv-loop μ-loop
 loop-holds c = search best·laws
 
+returns : tie.Need-returns Inv-loop μ-loop
+returns c = search best·laws
+
 span-at-requires : tie.Need-span-at-requires Inv-loop μ-loop
 span-at-requires c κs = search best·laws
 
@@ -57,8 +60,8 @@ loop-less-2 c = search best·laws
 loop-again-2 : tie.Need-loop-again-2 Inv-loop μ-loop
 loop-again-2 c = search best·laws
 
-returns : tie.Need-returns Inv-loop μ-loop
-returns c = search best·laws
+returns-2 : tie.Need-returns-2 Inv-loop μ-loop
+returns-2 c = search best·laws
 
 pub best-rank-spec : {M : Type 1} → statement M
 best-rank-spec =
@@ -67,6 +70,7 @@ best-rank-spec =
     Inv-loop
     μ-loop
     loop-holds
+    returns
     span-at-requires
     sub-rank-in
     part-rank-in-start
@@ -79,4 +83,4 @@ best-rank-spec =
     loop-again
     loop-less-2
     loop-again-2
-    returns)
+    returns-2)
