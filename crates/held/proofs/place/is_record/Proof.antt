@@ -1,5 +1,4 @@
 use Rattle.held.proofs.Placing.{record·laws}
-use borrow.Author.Needs.{needs}
 use Rattle.held.proofs.place.is_record.Statement.{statement}
 use Rattle.held.proofs.place.is_record.Tie as tie
 
