@@ -14,9 +14,9 @@ use mir.Val.{Fits}
 use mir.Syntax.{w16, w64}
 use Rattle.rules.specs.Lists.{pick, lower}
 use Rattle.rules.specs.Fields.{digit, lowerHexDigit, hexValue, group}
-use Rattle.addresses.specs.Views.{hexOr}
+use Rattle.numbers.specs.Views.{hexOr}
 use Rattle.addresses.specs.Pieces.{groupOf}
-use Rattle.addresses.proofs.HexDigit.{Hex, begin, taken, refused, all-good, all-worth, is-digit, no-digit, more-digits, times-fits, more-fits}
+use Rattle.numbers.proofs.HexDigit.{Hex, begin, taken, refused, all-good, all-worth, is-digit, no-digit, more-digits, times-fits, more-fits}
 
 abbrev pub anyCase : ℕ → Bool
 anyCase b = lowerHexDigit (lower b)

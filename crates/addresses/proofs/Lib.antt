@@ -1,5 +1,3 @@
-pub mod Number
-pub mod HexDigit
 pub mod Piece
 pub mod Octet
 pub mod Group

@@ -13,10 +13,10 @@ use mir.Val.{Fits}
 use mir.Syntax.{w8}
 use Rattle.rules.specs.Lists.{pick}
 use Rattle.rules.specs.Fields.{firstIsZero, octet, numberOf}
-use Rattle.addresses.specs.Views.{numberRead}
+use Rattle.numbers.specs.Views.{numberRead}
 use Rattle.addresses.specs.Pieces.{leadingZero, octetOf}
-use Rattle.addresses.specs.declared.numbers.NumberRead.{NumberRead}
-use Rattle.addresses.proofs.Number.{within}
+use Rattle.numbers.specs.declared.numbers.NumberRead.{NumberRead}
+use Rattle.numbers.proofs.Number.{within}
 
 pub short : (t : List ℕ) → length t < 2 → false ≡ leadingZero t
 unfolding leadingZero firstIsZero

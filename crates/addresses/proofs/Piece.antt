@@ -1,4 +1,4 @@
--- The laws of a byte looked for, and of the pieces between such bytes.
+-- The laws of the pieces of a text.
 use mathlib.Core.Path.{_≡_, refl, _∙_, sym}
 use mathlib.Core.Bool.{Bool, true, false}
 use mathlib.Core.List.{List, [], _∷_}
@@ -11,24 +11,9 @@ use borrow.Author.Tests.{eq-eqb, ne-eqb}
 use lib.Dec.{eqb}
 use lib.ListN.{length, getD, take, drop, drop-of-length-le}
 use lib.Seq.{drop-cons, drop-drop}
-use Rattle.rules.specs.Lists.{pick, has, ontoFirst, splitOn}
+use Rattle.rules.specs.Lists.{pick, ontoFirst, splitOn}
 use Rattle.wire.proofs.Steps.{left-at}
 use Rattle.addresses.specs.Pieces.{firstAt, IsEnd, behindByte, piecesFrom}
-
-module _ (s : List ℕ) (b i : ℕ) (e : has b s ≡ has b (drop i s)) where
-  pub found : i < length s → getD s i 0 ≡ b → true ≡ has b s
-  unfolding has
-  found h q = rw (e, left-at s i h, eq-eqb (getD s i 0) b q)
-
-  pub passed : i < length s → (getD s i 0 ≡ b → ⊥) → has b s ≡ has b (drop (i + 1) s)
-  unfolding has
-  passed h q = e ∙ rw (left-at s i h, ne-eqb (getD s i 0) b q)
-
-  pub absent : length s ≤ i → false ≡ has b s
-  unfolding has
-  absent h = rw (e, drop-of-length-le s h)
-
-pub ruleset has·laws = (found, passed, absent, needs)
 
 -- the end of a piece looked for
 module _ (s : List ℕ) (start b i : ℕ) (e : start + firstAt b (drop start s) ≡ i + firstAt b (drop i s)) (l : start ≤ i) where

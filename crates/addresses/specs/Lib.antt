@@ -1,3 +1,3 @@
 pub mod Views
-pub mod Pieces
 pub mod Addresses
+pub mod Pieces

@@ -1,15 +1,8 @@
 -- What the answers of the readers mean, as the rules write it.
 use Prim.Native.Nat.{ℕ}
 use mathlib.Core.Option.{Option, none, some}
-use Rattle.rules.specs.Lists.{pick}
-use Rattle.rules.specs.Fields.{lowerHexDigit, hexValue}
 use Rattle.addresses.specs.declared.groups.GroupRead.{GroupRead}
-use Rattle.addresses.specs.declared.numbers.NumberRead.{NumberRead}
 use Rattle.addresses.specs.declared.octets.OctetRead.{OctetRead}
-
-abbrev pub numberRead : NumberRead → Option ℕ
-numberRead (NumberRead.Good value) = some value
-numberRead NumberRead.Bad = none
 
 abbrev pub octetRead : OctetRead → Option ℕ
 octetRead (OctetRead.Good value) = some value
@@ -18,7 +11,3 @@ octetRead OctetRead.Bad = none
 abbrev pub groupRead : GroupRead → Option ℕ
 groupRead (GroupRead.Good value) = some value
 groupRead GroupRead.Bad = none
-
--- a hexadecimal digit's value, letters in lower case, or a number that stands for none
-unfoldable pub hexOr : ℕ → ℕ → ℕ
-hexOr bad b = pick (lowerHexDigit b) (hexValue b) bad

@@ -4,7 +4,7 @@ ghost use Rattle.addresses.specs.Addresses.{dottedAddress, groupedAddres
 use crate::groups::address_bytes;
 use crate::groups::groups;
 use crate::octets::octets;
-use crate::pieces::has_byte;
+use wire::get::has_byte;
 
 // The first len bytes: 4, 16, or none where the text is no address.
 pub struct AddressRead {

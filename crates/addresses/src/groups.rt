@@ -3,8 +3,8 @@ ghost use mathlib.Core.Path.{_≡_};
 ghost use Rattle.addresses.specs.Views.{groupRead};
 ghost use Rattle.addresses.specs.Pieces.{groupOf};
 ghost use Rattle.addresses.specs.Addresses.{groupsBytes, IsGroups};
-use crate::hex::hex_digit;
 use crate::pieces::piece_end;
+use numbers::hex::hex_digit;
 
 pub enum GroupRead {
     Good(u16),
@@ -40,7 +40,7 @@ pub struct GroupsRead {
 }
 
 // Eight groups joined by single underscores.
-pub fn groups(text: &[u8]) -> GroupsRead
+pub(crate) fn groups(text: &[u8]) -> GroupsRead
     ensures { λ r. ⌜ IsGroups (now (text .entry)) r ⌝ }
 {
     let mut groups = [0u16; 8];
@@ -77,7 +77,7 @@ pub fn groups(text: &[u8]) -> GroupsRead
 }
 
 // Each group as two bytes, the high one first.
-pub fn address_bytes(groups: [u16; 8]) -> [u8; 16]
+pub(crate) fn address_bytes(groups: [u16; 8]) -> [u8; 16]
     ensures { λ r. ⌜ r ≡ groupsBytes groups ⌝ }
 {
     let mut bytes = [0u8; 16];

@@ -1,7 +1,5 @@
-// Numbers and addresses, the fields that are made of digits. specs/Views.antt and specs/Addresses.antt say what the answers mean.
+// Addresses and prefixes, the fields made of numbers and hexadecimal digits.
 pub mod addresses;
-pub mod groups;
-pub mod hex;
-pub mod numbers;
-pub mod octets;
-pub mod pieces;
+mod groups;
+mod octets;
+mod pieces;

@@ -3,9 +3,9 @@ ghost use mathlib.Core.Path.{_≡_};
 ghost use Rattle.addresses.specs.Views.{octetRead};
 ghost use Rattle.addresses.specs.Pieces.{leadingZero, octetOf};
 ghost use Rattle.addresses.specs.Addresses.{IsOctets};
-use crate::numbers::NumberRead;
-use crate::numbers::number;
 use crate::pieces::piece_end;
+use numbers::numbers::NumberRead;
+use numbers::numbers::number;
 
 pub enum OctetRead {
     Good(u8),
@@ -45,7 +45,7 @@ pub struct OctetsRead {
 }
 
 // One to four numbers joined by dots.
-pub fn octets(text: &[u8]) -> OctetsRead
+pub(crate) fn octets(text: &[u8]) -> OctetsRead
     ensures { λ r. ⌜ IsOctets (now (text .entry)) r ⌝ }
 {
     let mut bytes = [0u8; 4];

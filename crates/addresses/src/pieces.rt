@@ -1,26 +1,11 @@
-// A text and the byte that parts its pieces.
+// The pieces of a text between the bytes that part them.
 ghost use mathlib.Core.Path.{_≡_};
 ghost use Prim.Native.Nat.{_≤_};
 ghost use lib.ListN.{length};
-ghost use Rattle.rules.specs.Lists.{has};
 ghost use Rattle.addresses.specs.Pieces.{IsEnd};
 
-pub fn has_byte(text: &[u8], b: u8) -> bool
-    ensures { λ r. ⌜ r ≡ has b (now (text .entry)) ⌝ }
-{
-    let n = text.len();
-    let mut i: usize = 0;
-    while i < n {
-        if text[i] == b {
-            return true;
-        }
-        i += 1;
-    }
-    false
-}
-
 // Where the piece that begins at start ends: at the next byte b, or at the text's end.
-pub fn piece_end(text: &[u8], start: usize, b: u8) -> usize
+pub(crate) fn piece_end(text: &[u8], start: usize, b: u8) -> usize
     requires { ⌜ start ≤ length (now text) ⌝ }
     ensures { λ r. ⌜ IsEnd b (now (text .entry)) start r ⌝ }
 {

@@ -14,7 +14,7 @@ use Rattle.rules.specs.Answers.{isDone, isGood, longestSource, sourceRecords, a
 use Rattle.rules.specs.declared.faults.Fault.{Fault}
 use Rattle.rules.specs.declared.faults.Answer.{Answer}
 use Rattle.rules.proofs.Meaning.{length-bytes}
-use Rattle.wire.specs.Put.{IsPut}
+use Rattle.buffer.specs.Put.{IsPut}
 use Rattle.compiler.specs.Judged.{judgedFrom}
 use Rattle.compiler.specs.Compiled.{IsCompiled}
 use Rattle.compiler.proofs.Judging.{judged-is, done-good}

@@ -17,7 +17,7 @@ use Rattle.rules.specs.declared.faults.Fault.{Fault}
 use Rattle.rules.specs.declared.faults.LineFault.{LineFault}
 use Rattle.rules.proofs.Meaning.{length-bytes}
 use Rattle.rules.proofs.Sizes.{line-short}
-use Rattle.wire.specs.Put.{IsPut}
+use Rattle.buffer.specs.Put.{IsPut}
 use Rattle.wire.proofs.Parts.{lentAt, tail-lent}
 use Rattle.compiler.specs.FirstLine.{firstLine}
 use Rattle.compiler.specs.Judged.{judgedFrom}

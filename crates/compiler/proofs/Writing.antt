@@ -11,9 +11,9 @@ use Rattle.rules.specs.Kinds.{linesOf}
 use Rattle.rules.specs.Records.{Record}
 use Rattle.rules.specs.Bytes.{encode, bytesOf}
 use Rattle.rules.specs.Answers.{isGood, lineRecords, sourceRecords}
-use Rattle.wire.specs.Put.{IsPut}
+use Rattle.buffer.specs.Put.{IsPut}
 use Rattle.wire.proofs.Parts.{lentAt, backAt, tail-lent}
-use Rattle.wire.proofs.Puts.{Run, run-none, run-front, run-more, run-length, run-whole}
+use Rattle.buffer.proofs.Puts.{Run, run-none, run-front, run-more, run-length, run-whole}
 use Rattle.compiler.specs.FirstLine.{firstLine}
 use Rattle.compiler.proofs.Lines.{line-is, lines-at, end-within}
 

@@ -5,7 +5,7 @@ ghost use lib.ListN.{length};
 ghost use Rattle.compiler.specs.FirstLine.{firstLine};
 
 // The length of the first line: up to byte 10, or the end.
-pub fn line_length(source: &[u8]) -> usize
+pub(crate) fn line_length(source: &[u8]) -> usize
     ensures { λ r. ⌜ (r ≡ length (firstLine (now (source .entry)))) × (r ≤ length (now (source .entry))) ⌝ }
 {
     let n = source.len();

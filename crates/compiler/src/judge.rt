@@ -39,7 +39,7 @@ fn size_line(scratch: &mut [u8], line: &[u8], serial: u32) -> LineSize
 }
 
 // The first bad line, or how many bytes all lines take.
-pub fn judge(source: &[u8], serial: u32) -> Answer
+pub(crate) fn judge(source: &[u8], serial: u32) -> Answer
     requires { ⌜ length (now source) ≤ 1048576 ⌝ }
     ensures { λ r. ⌜ r ≡ judgedFrom serial 1 0 (linesOf (now (source .entry))) ⌝ }
 {

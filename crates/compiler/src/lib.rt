@@ -1,5 +1,5 @@
 // A source compiled: every line judged and the sizes summed, then the room tested, then every line written.
 pub mod compile;
-pub mod ends;
-pub mod judge;
-pub mod write;
+mod ends;
+mod judge;
+mod write;

@@ -7,11 +7,11 @@ ghost use Rattle.rules.specs.Lists.{all};
 ghost use Rattle.rules.specs.Kinds.{linesOf};
 ghost use Rattle.rules.specs.Bytes.{bytesOf};
 ghost use Rattle.rules.specs.Answers.{isGood, sourceRecords};
-ghost use Rattle.wire.specs.Put.{IsPut};
+ghost use Rattle.buffer.specs.Put.{IsPut};
 use crate::ends::line_length;
 use writer::line::put_line;
 
-pub fn write_all(source: &[u8], serial: u32, out: &mut [u8]) -> usize
+pub(crate) fn write_all(source: &[u8], serial: u32, out: &mut [u8]) -> usize
     requires { ⌜ (length (now source) ≤ 1048576) × (all isGood (linesOf (now source)) ≡ true) ⌝ }
     requires { ⌜ length (bytesOf (sourceRecords serial (now source))) ≤ length (now out) ⌝ }
     ensures { λ r. ⌜ IsPut (bytesOf (sourceRecords serial (now (source .entry)))) (now (out .entry)) (now (out .exit)) r ⌝ }

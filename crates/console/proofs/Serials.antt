@@ -8,9 +8,9 @@ use borrow.Author.Needs.{needs}
 use mir.Val.{Fits}
 use mir.Syntax.{w32}
 use Rattle.rules.specs.Fields.{numberOf, largestLong}
-use Rattle.addresses.specs.Views.{numberRead}
-use Rattle.addresses.specs.declared.numbers.NumberRead.{NumberRead}
-use Rattle.addresses.proofs.Number.{within}
+use Rattle.numbers.specs.Views.{numberRead}
+use Rattle.numbers.specs.declared.numbers.NumberRead.{NumberRead}
+use Rattle.numbers.proofs.Number.{within}
 
 module _ (t : List ℕ) (x : NumberRead) (p : numberRead x ≡ numberOf 4294967295 t) where
   pub good : (v : ℕ) → x ≡ NumberRead.Good v → some v ≡ numberOf largestLong t

@@ -6,8 +6,8 @@ use native.Mathlib.Omega.{arith}
 use borrow.Author.Needs.{needs}
 use lib.ListN.{length, take, List·getD-eq-default}
 use Rattle.rules.specs.Texts.{bytes}
-use Rattle.wire.specs.Put.{IsPut}
-use Rattle.wire.proofs.Puts.{within, front}
+use Rattle.buffer.specs.Put.{IsPut}
+use Rattle.buffer.proofs.Puts.{within, front}
 use Rattle.console.specs.Words.{words, wordsOf}
 
 -- the arm of a number

@@ -3,9 +3,9 @@ ghost use mathlib.Core.Path.{_≡_};
 ghost use Rattle.rules.specs.Fields.{numberOf, largestLong};
 ghost use Rattle.console.specs.Answers.{IsFront, serialRead};
 use crate::files::Front;
-use addresses::numbers::NumberRead;
-use addresses::numbers::number;
 use libc::STDERR_FILENO;
+use numbers::numbers::NumberRead;
+use numbers::numbers::number;
 
 pub enum SerialRead {
     Good(u32),

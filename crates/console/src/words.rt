@@ -1,8 +1,8 @@
 // The words of an answer's number.
-ghost use Rattle.wire.specs.Put.{IsPut};
+ghost use Rattle.buffer.specs.Put.{IsPut};
 ghost use Rattle.io.specs.Counts.{Counts};
 ghost use Rattle.console.specs.Words.{wordsOf};
-use wire::put::put_bytes;
+use buffer::put::put_bytes;
 
 // The words of a number, at the front of out.
 pub fn put_words(out: &mut [u8; 32], number: u64) -> usize

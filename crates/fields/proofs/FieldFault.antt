@@ -15,14 +15,15 @@ use Rattle.rules.specs.declared.faults.Fault.{Fault}
 use Rattle.rules.specs.declared.faults.FieldKind.{FieldKind}
 use Rattle.rules.specs.declared.faults.NameFault.{NameFault}
 use Rattle.rules.specs.declared.kinds.Meaning.{Meaning}
-use Rattle.addresses.specs.Views.{numberRead}
-use Rattle.fields.specs.Views.{judgedOf, textJudged}
+use Rattle.numbers.specs.Views.{numberRead}
+use Rattle.names.specs.Views.{judgedOf}
+use Rattle.escapes.specs.Views.{textJudged}
 use Rattle.addresses.specs.Addresses.{addressRead, IsAddress, prefixRead, IsPrefix}
 use Rattle.addresses.specs.declared.addresses.AddressRead.{AddressRead}
 use Rattle.addresses.specs.declared.addresses.PrefixRead.{PrefixRead}
-use Rattle.fields.specs.declared.names.NameJudged.{NameJudged}
-use Rattle.addresses.specs.declared.numbers.NumberRead.{NumberRead}
-use Rattle.fields.specs.declared.texts.TextJudged.{TextJudged}
+use Rattle.names.specs.declared.names.NameJudged.{NameJudged}
+use Rattle.numbers.specs.declared.numbers.NumberRead.{NumberRead}
+use Rattle.escapes.specs.declared.texts.TextJudged.{TextJudged}
 
 -- a reader's answer r is the case c: the fault is that case's
 pub seen : {A R : Type 0} (view : R → Option A) (kind : FieldKind) (x : Option A) (r c : R) (f : Fault) → view r ≡ x → r ≡ c → f ≡ unless kind (view c) → f ≡ unless kind x

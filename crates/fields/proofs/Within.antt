@@ -14,9 +14,10 @@ use Rattle.rules.specs.Fields.{unless, nameFault, needed}
 use Rattle.rules.specs.declared.faults.Fault.{Fault}
 use Rattle.rules.specs.declared.faults.FieldKind.{FieldKind}
 use Rattle.rules.specs.declared.faults.NameFault.{NameFault}
-use Rattle.fields.specs.Views.{judgedOf, isNamed, textJudged}
-use Rattle.fields.specs.declared.names.NameJudged.{NameJudged}
-use Rattle.fields.specs.declared.texts.TextJudged.{TextJudged}
+use Rattle.names.specs.Views.{judgedOf, isNamed}
+use Rattle.escapes.specs.Views.{textJudged}
+use Rattle.names.specs.declared.names.NameJudged.{NameJudged}
+use Rattle.escapes.specs.declared.texts.TextJudged.{TextJudged}
 
 -- a name that was judged
 is-named : (x : NameRead) (r : NameJudged) (n : ℕ) → r ≡ judgedOf x → r ≡ NameJudged.Named n → (isNamed x ≡ true) × (length (wireIn x) ≡ n)

@@ -1,17 +1,17 @@
 -- The laws of judging a line.
-use mathlib.Core.Path.{_≡_, refl, ap, ap₂, _∙_, sym}
+use mathlib.Core.Path.{_≡_, refl, ap, _∙_, sym}
 use mathlib.Core.Bool.{Bool, true, false, not}
 use mathlib.Core.List.{List, [], _∷_, _++_, map}
-use Prim.Native.Nat.{ℕ, zero, suc, _+_, _-_, _<_, _≤_}
+use Prim.Native.Nat.{ℕ, suc, _+_, _-_, _<_, _≤_}
 use native.Mathlib.Numerals.{add-one}
 use native.Mathlib.Omega.{arith}
 use borrow.Author.Needs.{needs}
 use borrow.Author.Tests.{eq-eqb, ne-eqb, lt-ltb, le-ltb, leb-true, leb-false, not-true, not-false}
-use lib.Dec.{ltb, leb}
-use lib.ListN.{length, getD, take, drop, replicate, length-map, List·getD-append, List·getD-map, drop-of-length-le}
-use lib.Seq.{drop-cons, getD-take, take-at, length-take-le}
+use lib.Dec.{ltb}
+use lib.ListN.{length, getD, take, drop, length-map, List·getD-map, drop-of-length-le}
+use lib.Seq.{drop-cons, getD-take, length-take-le}
 use Rattle.rules.specs.Lists.{pick, splitOn}
-use Rattle.rules.specs.Kinds.{strip, ignored, kindOf, common, meanings, fieldCount, fieldAt}
+use Rattle.rules.specs.Kinds.{ignored, kindOf, meanings, fieldCount, fieldAt}
 use Rattle.rules.specs.Fields.{faultOf}
 use Rattle.rules.specs.Records.{joinedNames}
 use Rattle.rules.specs.Answers.{isDone, noFault, thenFault, fieldsFault, joinedFault, wholeLine, kindFault, strippedFault, longestLine, lineFault}
@@ -19,62 +19,19 @@ use Rattle.rules.specs.declared.faults.Fault.{Fault}
 use Rattle.rules.specs.declared.faults.LineFault.{LineFault}
 use Rattle.rules.specs.declared.kinds.Kind.{Kind}
 use Rattle.rules.specs.declared.kinds.Meaning.{Meaning}
-use Rattle.lines.specs.Rows.{codeOf, meaningOf, codes, rowOf}
-use Rattle.lines.specs.Splits.{FieldsOf, IsSplit}
-use Rattle.lines.specs.Strips.{IsStripped}
-use Rattle.lines.specs.declared.kinds.Row.{Row}
-use Rattle.lines.specs.declared.splits.Fields.{Fields}
+use Rattle.kinds.specs.Rows.{meaningOf, codes, rowOf}
+use Rattle.splits.specs.Splits.{FieldsOf, IsSplit}
+use Rattle.splits.specs.Strips.{IsStripped}
+use Rattle.kinds.specs.declared.kinds.Row.{Row}
+use Rattle.splits.specs.declared.splits.Fields.{Fields}
+use Rattle.splits.proofs.Stripping.{parted-line}
+use Rattle.kinds.proofs.Rows.{codes-mean, count-most}
 
 -- ---- one field
 
 pub field-fault : (s codes : List ℕ) (i : ℕ) (m : Meaning) (t : List ℕ) (f : Fault) → m ≡ meaningOf (getD codes i 0) → t ≡ fieldAt (splitOn 58 s) i → f ≡ faultOf m t
     → f ≡ faultOf (meaningOf (getD codes i 0)) (fieldAt (splitOn 58 s) i)
 field-fault s codes i m t f a b c = c ∙ rw (a, b)
-
--- ---- the fields of a kind
-
-meaning-code : (m : Meaning) → meaningOf (codeOf m) ≡ m
-unfolding meaningOf pick
-meaning-code Meaning.Owner = refl
-meaning-code Meaning.Target = refl
-meaning-code Meaning.HostPart = refl
-meaning-code Meaning.Address = refl
-meaning-code Meaning.OptionalAddress = refl
-meaning-code Meaning.Short = refl
-meaning-code Meaning.Long = refl
-meaning-code Meaning.Port = refl
-meaning-code Meaning.RecordType = refl
-meaning-code Meaning.Ttl = refl
-meaning-code Meaning.Time = refl
-meaning-code Meaning.Lo = refl
-meaning-code Meaning.LocationLo = refl
-meaning-code Meaning.Prefix = refl
-meaning-code Meaning.Text = refl
-
--- a kind's codes stand for its meanings
-meanings-back : (ms : List Meaning) → map meaningOf (map codeOf ms) ≡ ms
-meanings-back [] = refl
-meanings-back (m ∷ ms) = ap₂ (λ (x : Meaning) (xs : List Meaning). x ∷ xs) (meaning-code m) (meanings-back ms)
-
-codes-mean : (kind : Kind) → map meaningOf (take (fieldCount kind) (codes kind)) ≡ meanings kind
-unfolding codes fieldCount
-codes-mean kind = ap (map meaningOf) (take-at (map codeOf (meanings kind)) _ (length (meanings kind)) (length-map (meanings kind) codeOf)) ∙ meanings-back (meanings kind)
-
-pub count-most : (kind : Kind) → fieldCount kind ≤ 11
-unfolding fieldCount meanings common
-count-most Kind.Location = omega arith
-count-most Kind.Zone = omega arith
-count-most Kind.Delegation = omega arith
-count-most Kind.Host = omega arith
-count-most Kind.Alias = omega arith
-count-most Kind.Mail = omega arith
-count-most Kind.Service = omega arith
-count-most Kind.Text = omega arith
-count-most Kind.Pointer = omega arith
-count-most Kind.Canonical = omega arith
-count-most Kind.Authority = omega arith
-count-most Kind.Generic = omega arith
-count-most Kind.Unknown = omega arith
 
 -- the fields from field i on have the fault of all
 unfoldable pub Going : List ℕ → List ℕ → ℕ → ℕ → Type 0
@@ -154,16 +111,6 @@ module _ (s : List ℕ) (kind : Kind) (row : Row) (e : row ≡ rowOf kind) where
       joined-last r t q = q ∙ sym (enough ∙ rw t)
 
 pub ruleset kind·laws = (needs, row-most, unknown, too-many, spans-of, field-first, joined-last)
-
--- ---- a line
-
--- the kind byte and the rest
-pub parted-line : (line : List ℕ) (n : ℕ) → (n ≡ 0 → ⊥) → n ≤ length line → take n line ≡ getD line 0 0 ∷ take (n - 1) (drop 1 line)
-parted-line line zero some h = absurd (some refl)
-parted-line [] (suc n) some h = absurd (omega arith)
-parted-line (b ∷ line) (suc n) some h =
-    let e : suc n - 1 ≡ n = omega arith in
-    rw e
 
 module _ (line : List ℕ) where
   pub too-long : 1024 < length line → record { fault = Fault.LineTooLong; field = 0 } ≡ lineFault line

@@ -4,24 +4,25 @@ ghost use Prim.Native.Nat.{_≤_, _<_};
 ghost use mathlib.Core.List.{map};
 ghost use lib.ListN.{length, getD, take};
 ghost use Rattle.rules.specs.Lists.{splitOn};
-ghost use Rattle.rules.specs.Kinds.{fieldAt, ignored};
+ghost use Rattle.rules.specs.Kinds.{fieldAt};
 ghost use Rattle.rules.specs.Fields.{faultOf};
-ghost use Rattle.rules.specs.Answers.{isDone, fieldsFault, kindFault, lineFault};
-ghost use Rattle.lines.specs.Splits.{FieldsOf};
-ghost use Rattle.lines.specs.Rows.{meaningOf};
-use crate::joined::joined_fault;
-use crate::kinds::kind_of;
-use crate::kinds::meaning_of;
-use crate::kinds::row_of;
-use crate::splits::Span;
-use crate::splits::field;
-use crate::splits::split;
-use crate::strips::stripped;
+ghost use Rattle.rules.specs.Answers.{fieldsFault, kindFault, lineFault};
+ghost use Rattle.splits.specs.Splits.{FieldsOf};
+ghost use Rattle.kinds.specs.Rows.{meaningOf};
 use fields::faults::field_fault;
+use joined::joined::joined_fault;
+use kinds::kinds::is_ignored;
+use kinds::kinds::kind_of;
+use kinds::kinds::meaning_of;
+use kinds::kinds::row_of;
 use rules::faults::Fault;
 use rules::faults::LineFault;
 use rules::faults::is_done;
 use rules::kinds::Kind;
+use splits::splits::Span;
+use splits::splits::field;
+use splits::splits::split;
+use splits::strips::stripped;
 
 // The fault of field i, read as the meaning of its code.
 fn fault_at(rest: &[u8], spans: [Span; 11], codes: [u8; 11], i: usize) -> Fault
@@ -84,16 +85,6 @@ fn kind_fault(rest: &[u8], kind: Kind) -> LineFault
         return joined_fault(rest, spans, kind);
     }
     first
-}
-
-// A comment, or a line that is switched off.
-pub fn is_ignored(b: u8) -> bool
-    ensures { λ r. ⌜ r ≡ ignored b ⌝ }
-{
-    if b == 35 {
-        return true;
-    }
-    b == 45
 }
 
 pub fn line_fault(line: &[u8]) -> LineFault

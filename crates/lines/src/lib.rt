@@ -1,6 +1,2 @@
-// One line of a source: its kind and fields, its first fault, its records written.
-pub mod joined;
+// The first fault of a line.
 pub mod judge;
-pub mod kinds;
-pub mod splits;
-pub mod strips;

@@ -3,7 +3,6 @@
 // can't be read or is refused, and nothing where all was asked: a program has no exit status of its own choice.
 mod print;
 
-use compiler::ends::line_length;
 use console::arguments::SerialRead;
 use console::arguments::argument;
 use console::arguments::serial;
@@ -12,6 +11,7 @@ use console::compiled::records_buffer;
 use console::files::read_file;
 use libc::STDERR_FILENO;
 use print::print_answers;
+use questions::pieces::line_end;
 
 // Each line of the questions.
 fn ask_lines(records: &[u8], path: &[u8], text: &[u8]) {
@@ -19,7 +19,7 @@ fn ask_lines(records: &[u8], path: &[u8], text: &[u8]) {
     let mut number: usize = 0;
     let mut at: usize = 0;
     while at < n {
-        let end = at + line_length(&text[at..]);
+        let end = at + line_end(&text[at..]);
         number += 1;
         print_answers(records, path, number as u64, &text[at..end]);
         at = end + 1;

@@ -18,16 +18,17 @@ use Rattle.rules.specs.Reading.{askReply}
 use Rattle.rules.specs.declared.replies.Reply.{Reply}
 use Rattle.rules.specs.declared.faults.NameFault.{NameFault}
 use Rattle.rules.specs.declared.quantities.Moment.{Moment}
-use Rattle.addresses.specs.Views.{numberRead}
+use Rattle.numbers.specs.Views.{numberRead}
 use Rattle.addresses.specs.Addresses.{addressRead, IsAddress}
 use Rattle.addresses.specs.declared.addresses.AddressRead.{AddressRead}
-use Rattle.addresses.specs.declared.numbers.NumberRead.{NumberRead}
-use Rattle.addresses.proofs.Number.{within}
-use Rattle.fields.specs.Views.{judgedOf, isNamed}
-use Rattle.fields.specs.declared.names.NameJudged.{NameJudged}
+use Rattle.numbers.specs.declared.numbers.NumberRead.{NumberRead}
+use Rattle.numbers.proofs.Number.{within}
+use Rattle.names.specs.Views.{judgedOf, isNamed}
+use Rattle.names.specs.declared.names.NameJudged.{NameJudged}
 use Rattle.wire.proofs.Parts.{front-count}
-use Rattle.writer.specs.Held.{heldName, heldAddress, IsHeld, IsName}
-use Rattle.writer.specs.declared.names.Name.{Name}
+use Rattle.hosts.specs.Hosts.{heldAddress, IsHeld}
+use Rattle.names.specs.Held.{heldName, IsName}
+use Rattle.names.specs.declared.names.Name.{Name}
 use Rattle.questions.specs.Questions.{momentOf, Asker, askerOf, Asked, askedOf, questionFrom, questionIn, questionOf}
 use Rattle.questions.specs.Views.{momentRead, askerRead, IsAsker, IsWithin, IsNameRead, askedRead, IsAsked, spansRead, IsSpans, heldQuestion, questionRead, IsQuestion}
 use Rattle.questions.specs.Replies.{lineReply}
@@ -36,8 +37,8 @@ use Rattle.questions.specs.declared.questions.QuestionRead.{QuestionRead
 use Rattle.questions.specs.declared.questions.LineReply.{LineReply}
 use Rattle.questions.specs.declared.moments.MomentRead.{MomentRead}
 use Rattle.questions.specs.declared.askers.AskerRead.{AskerRead}
-use Rattle.questions.specs.declared.names.AskedRead.{AskedRead}
-use Rattle.questions.specs.declared.names.NameRead.{NameRead as HeldRead}
+use Rattle.questions.specs.declared.asked.AskedRead.{AskedRead}
+use Rattle.questions.specs.declared.asked.NameRead.{NameRead as HeldRead}
 
 -- ---- when it is asked, and by whom
 

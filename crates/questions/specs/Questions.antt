@@ -9,7 +9,7 @@ use Rattle.rules.specs.Lists.{pick, valueOr, isSome, all, splitOn}
 use Rattle.rules.specs.Fields.{lowerHexDigit, hexFrom, numberOf, largestShort, addressOf}
 use Rattle.rules.specs.Names.{nameOf, wireOf}
 use Rattle.rules.specs.Questions.{Question}
-use Rattle.fields.specs.Views.{isNamed}
+use Rattle.names.specs.Views.{isNamed}
 
 -- any moment of 64 bits: 16 hexadecimal digits in lower case. Asking refuses those of 2^63 and more by their own number.
 unfoldable pub momentOf : List ℕ → Option ℕ

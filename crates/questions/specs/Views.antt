@@ -8,14 +8,15 @@ use lib.ListN.{length, take, drop}
 use Rattle.rules.specs.Lists.{pick, splitOn}
 use Rattle.rules.specs.Names.{nameOf, wireOf}
 use Rattle.rules.specs.Questions.{Question}
-use Rattle.fields.specs.Views.{isNamed}
-use Rattle.writer.specs.Held.{heldName, heldAddress, IsHeld}
-use Rattle.writer.specs.declared.names.Name.{Name}
+use Rattle.names.specs.Views.{isNamed}
+use Rattle.hosts.specs.Hosts.{heldAddress, IsHeld}
+use Rattle.names.specs.Held.{heldName}
+use Rattle.names.specs.declared.names.Name.{Name}
 use Rattle.questions.specs.Questions.{Asker, Asked, Four, fourOf}
 use Rattle.questions.specs.declared.askers.AskerRead.{AskerRead}
 use Rattle.questions.specs.declared.moments.MomentRead.{MomentRead}
-use Rattle.questions.specs.declared.names.NameRead.{NameRead}
-use Rattle.questions.specs.declared.names.AskedRead.{AskedRead}
+use Rattle.questions.specs.declared.asked.NameRead.{NameRead}
+use Rattle.questions.specs.declared.asked.AskedRead.{AskedRead}
 use Rattle.questions.specs.declared.pieces.Spans.{Spans}
 use Rattle.questions.specs.declared.questions.QuestionRead.{QuestionRead}
 

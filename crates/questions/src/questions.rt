@@ -1,19 +1,19 @@
 // A line's question.
 ghost use mathlib.Core.Path.{_≡_};
 ghost use mathlib.Core.Option.{none};
-ghost use Rattle.writer.specs.Held.{IsHeld};
+ghost use Rattle.hosts.specs.Hosts.{IsHeld};
 ghost use Rattle.rules.specs.Reading.{askReply};
 ghost use Rattle.questions.specs.Questions.{askerOf, askedOf, questionFrom, questionOf};
 ghost use Rattle.questions.specs.Views.{IsQuestion, IsWithin, heldQuestion};
 ghost use Rattle.questions.specs.Replies.{lineReply};
+use crate::asked::read_asked;
 use crate::askers::read_asker;
-use crate::names::read_asked;
 use crate::pieces::split_line;
 use addresses::addresses::AddressRead;
+use names::names::Name;
 use reader::ask;
 use rules::quantities::Moment;
 use rules::replies::Reply;
-use writer::names::Name;
 
 pub struct QuestionRead {
     pub good: bool,

@@ -1,2 +1,2 @@
-pub mod Head
-pub mod Whole
+pub mod Exchanger
+pub mod Sequence

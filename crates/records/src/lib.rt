@@ -1,4 +1,2 @@
-// The bytes of one record, written into the front of a lent buffer.
-pub mod heads;
-pub mod locations;
+// Resource records.
 pub mod resources;

@@ -3,7 +3,7 @@ ghost use mathlib.Core.Path.{_≡_};
 ghost use mathlib.Core.List.{map};
 ghost use Prim.Native.Nat.{_<_, _≤_};
 ghost use lib.ListN.{length};
-ghost use Rattle.rules.specs.Lists.{lower, fromBE, fromLE, sameBytes, beginsWith};
+ghost use Rattle.rules.specs.Lists.{lower, fromBE, fromLE, sameBytes, beginsWith, has};
 use crate::letters::lowered;
 
 // A byte as a number that sums of bytes fit.
@@ -43,23 +43,6 @@ pub fn get_le(bytes: &[u8]) -> u64
     value
 }
 
-pub fn same(a: &[u8], b: &[u8]) -> bool
-    ensures { λ r. ⌜ r ≡ sameBytes (now (a .entry)) (now (b .entry)) ⌝ }
-{
-    let n = a.len();
-    if n != b.len() {
-        return false;
-    }
-    let mut i: usize = 0;
-    while i < n {
-        if a[i] != b[i] {
-            return false;
-        }
-        i += 1;
-    }
-    true
-}
-
 pub fn begins_with(prefix: &[u8], bytes: &[u8]) -> bool
     ensures { λ r. ⌜ r ≡ beginsWith (now (prefix .entry)) (now (bytes .entry)) ⌝ }
 {
@@ -93,4 +76,18 @@ pub fn same_lowered(key: &[u8], name: &[u8]) -> bool
         i += 1;
     }
     true
+}
+
+pub fn has_byte(text: &[u8], b: u8) -> bool
+    ensures { λ r. ⌜ r ≡ has b (now (text .entry)) ⌝ }
+{
+    let n = text.len();
+    let mut i: usize = 0;
+    while i < n {
+        if text[i] == b {
+            return true;
+        }
+        i += 1;
+    }
+    false
 }

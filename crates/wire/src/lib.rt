@@ -1,4 +1,3 @@
-// Bytes put into lent buffers and read from slices: the leaves of every writer and reader.
+// Bytes read and compared, and letters lowered by a table.
 pub mod get;
 pub mod letters;
-pub mod put;

@@ -1,34 +1,34 @@
 -- The laws of a line written by its kind.
-use mathlib.Core.Path.{_≡_, refl, ap, _∙_, sym, subst}
+use mathlib.Core.Path.{_≡_, refl, ap, _∙_, subst}
 use mathlib.Core.Bool.{Bool, true, false, not}
 use mathlib.Core.List.{List, [], _∷_, _++_}
-use Prim.Native.Nat.{ℕ, zero, suc, _-_, _≤_, _<_}
+use Prim.Native.Nat.{ℕ, zero, suc, _-_, _≤_}
 use native.Mathlib.Omega.{arith}
 use borrow.Author.Needs.{needs}
 use borrow.Author.Tests.{le-leb}
-use lib.Dec.{T, leb, ltb, eqb, nltb→le, eqb→eq}
+use lib.Dec.{T, eqb, nltb→le}
 use lib.ListN.{length, getD, take, drop, length-take, length-drop}
 use Rattle.rules.specs.Lists.{pick, splitOn, joinAll}
-use Rattle.rules.specs.Kinds.{strip, ignored, kindOf, meanings, fieldCount}
-use Rattle.rules.specs.Records.{Record, joinedNames, recordsOf}
-use Rattle.rules.specs.Bytes.{encode, bytesOf}
-use Rattle.rules.specs.Answers.{isDone, noFault, thenFault, fieldsFault, joinedFault, wholeLine, kindFault, strippedFault, isGood, strippedRecords, lineRecords}
+use Rattle.rules.specs.Kinds.{ignored, kindOf, fieldCount}
+use Rattle.rules.specs.Records.{Record, recordsOf}
+use Rattle.rules.specs.Bytes.{bytesOf}
+use Rattle.rules.specs.Answers.{isDone, wholeLine, kindFault, strippedFault, isGood, strippedRecords, lineRecords}
 use Rattle.rules.specs.declared.kinds.Kind.{Kind}
-use Rattle.rules.specs.declared.faults.LineFault.{LineFault}
 use Rattle.rules.proofs.Tests.{pick-ok}
 use Rattle.rules.proofs.GoodLines.{Done, line-done}
-use Rattle.wire.specs.Put.{IsPut}
-use Rattle.lines.specs.Rows.{rowOf}
-use Rattle.lines.specs.Splits.{FieldsOf, IsSplit}
-use Rattle.lines.specs.Strips.{IsStripped}
-use Rattle.lines.specs.declared.kinds.Row.{Row}
-use Rattle.lines.specs.declared.splits.Fields.{Fields}
-use Rattle.lines.specs.declared.splits.Span.{Span}
-use Rattle.lines.proofs.Judging.{count-most}
-use Rattle.writer.specs.Ready.{Ready, GoodRest}
-use Rattle.writer.proofs.OneRecord.{location-serial, text-serial, pointer-serial, canonical-serial, generic-serial}
+use Rattle.buffer.specs.Put.{IsPut}
+use Rattle.kinds.specs.Rows.{rowOf}
+use Rattle.splits.specs.Splits.{IsSplit}
+use Rattle.splits.specs.Strips.{IsStripped}
+use Rattle.kinds.specs.declared.kinds.Row.{Row}
+use Rattle.splits.specs.declared.splits.Fields.{Fields}
+use Rattle.splits.specs.declared.splits.Span.{Span}
+use Rattle.kinds.proofs.Rows.{count-most}
+use Rattle.splits.proofs.Stripping.{parted-line}
+use Rattle.values.specs.Ready.{Ready}
+use Rattle.writer.specs.GoodLine.{GoodRest}
 
--- ---- each kind
+-- ---- each kind: only a zone and an authority use the serial
 
 module _ (serial : ℕ) (fields : List (List ℕ)) where
   pub zone-serial : recordsOf serial Kind.Zone fields ≡ recordsOf serial Kind.Zone fields
@@ -56,6 +56,26 @@ module _ (serial : ℕ) (fields : List (List ℕ)) where
   pub service-serial : recordsOf serial Kind.Service fields ≡ recordsOf 0 Kind.Service fields
   unfolding recordsOf
   service-serial = refl
+
+  pub location-serial : recordsOf serial Kind.Location fields ≡ recordsOf 0 Kind.Location fields
+  unfolding recordsOf
+  location-serial = refl
+
+  pub text-serial : recordsOf serial Kind.Text fields ≡ recordsOf 0 Kind.Text fields
+  unfolding recordsOf
+  text-serial = refl
+
+  pub pointer-serial : recordsOf serial Kind.Pointer fields ≡ recordsOf 0 Kind.Pointer fields
+  unfolding recordsOf
+  pointer-serial = refl
+
+  pub canonical-serial : recordsOf serial Kind.Canonical fields ≡ recordsOf 0 Kind.Canonical fields
+  unfolding recordsOf
+  canonical-serial = refl
+
+  pub generic-serial : recordsOf serial Kind.Generic fields ≡ recordsOf 0 Kind.Generic fields
+  unfolding recordsOf
+  generic-serial = refl
 
 -- where a kind is found to be another's name
 module _ (s : List ℕ) (k kind : Kind) (e : k ≡ kind) where
@@ -128,7 +148,7 @@ module _ (serial : ℕ) (line : List ℕ) (n : ℕ) (good : isGood line ≡ true
 
   module _ (there : n ≡ 0 → ⊥) where
     parted : take n line ≡ getD line 0 0 ∷ take (n - 1) (drop 1 line)
-    parted = Rattle.lines.proofs.Judging.parted-line line n there (p .most)
+    parted = parted-line line n there (p .most)
 
     pub comment : (d : List ℕ) (t : Bool) → t ≡ ignored (getD line 0 0) → t ≡ true → IsPut (bytesOf (lineRecords serial line)) d d 0
     unfolding strippedRecords bytesOf joinAll pick

@@ -1,11 +1,1 @@
-pub mod AddressLines
-pub mod Addressing
-pub mod Holding
 pub mod ByKind
-pub mod HostRecords
-pub mod OneAuthority
-pub mod OneRecord
-pub mod OneText
-pub mod Readiness
-pub mod Sequence
-pub mod Valuing

@@ -1,3 +1,1 @@
-pub mod Alone
-pub mod Held
-pub mod Ready
+pub mod GoodLine

@@ -1,4 +1,4 @@
-use Rattle.addresses.proofs.Number.{within}
+use Rattle.numbers.proofs.Number.{within}
 use borrow.Author.Needs.{needs}
 use Rattle.boundaries.proofs.room_after.Statement.{statement}
 use Rattle.boundaries.proofs.room_after.Tie as tie

@@ -13,17 +13,17 @@ abbrev μ-loop : tie.MeasureT-loop
 loop-holds : tie.Need-loop-holds Inv-loop μ-loop
 loop-holds c = search needs
 
-sub-line-length : tie.Need-sub-line-length Inv-loop μ-loop
-sub-line-length c = search needs
+sub-line-end : tie.Need-sub-line-end Inv-loop μ-loop
+sub-line-end c = search needs
 
-part-line-length-start : tie.Need-part-line-length-start Inv-loop μ-loop
-part-line-length-start c = search needs
+part-line-end-start : tie.Need-part-line-end-start Inv-loop μ-loop
+part-line-end-start c = search needs
 
-part-line-length-end : tie.Need-part-line-length-end Inv-loop μ-loop
-part-line-length-end c = search needs
+part-line-end-end : tie.Need-part-line-end-end Inv-loop μ-loop
+part-line-end-end c = search needs
 
-line-length-requires : tie.Need-line-length-requires Inv-loop μ-loop
-line-length-requires c κs = search needs
+line-end-requires : tie.Need-line-end-requires Inv-loop μ-loop
+line-end-requires c κs = search needs
 
 add-end : tie.Need-add-end Inv-loop μ-loop
 add-end c = search needs
@@ -62,10 +62,10 @@ ask-lines-spec =
     Inv-loop
     μ-loop
     loop-holds
-    sub-line-length
-    part-line-length-start
-    part-line-length-end
-    line-length-requires
+    sub-line-end
+    part-line-end-start
+    part-line-end-end
+    line-end-requires
     add-end
     add-number
     sub-print-answers

@@ -1,6 +1,6 @@
 use Prim.Native.Nat.{_-_, _^_, _<_, _≤_}
 use lib.ListN.{length}
-use Rattle.addresses.proofs.HexDigit.{Hex}
+use Rattle.numbers.proofs.HexDigit.{Hex}
 use Rattle.addresses.proofs.Group.{anyCase, group·laws}
 use Rattle.addresses.proofs.groups.group.Statement.{statement}
 use Rattle.addresses.proofs.groups.group.Tie as tie

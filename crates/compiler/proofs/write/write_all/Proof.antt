@@ -1,7 +1,7 @@
 use mathlib.Core.Path.{_≡_}
 use Prim.Native.Nat.{_+_, _-_, _≤_}
 use lib.ListN.{length}
-use Rattle.wire.proofs.Puts.{Run}
+use Rattle.buffer.proofs.Puts.{Run}
 use Rattle.compiler.proofs.Writing.{Writing, write·laws, length-next, run-next, next-line}
 use Rattle.compiler.proofs.write.write_all.Statement.{statement}
 use Rattle.compiler.proofs.write.write_all.Tie as tie

@@ -1,5 +1,5 @@
 use Rattle.rules.specs.Fields.{unless}
-use Rattle.fields.specs.Views.{loRead}
+use Rattle.codes.specs.Views.{loRead}
 use Rattle.fields.proofs.FieldFault.{seen}
 use borrow.Author.Needs.{needs}
 use Rattle.fields.proofs.faults.lo_fault.Statement.{statement}

@@ -1,5 +1,5 @@
 use Rattle.rules.specs.Fields.{unless}
-use Rattle.addresses.specs.Views.{numberRead}
+use Rattle.numbers.specs.Views.{numberRead}
 use Rattle.fields.proofs.FieldFault.{seen}
 use borrow.Author.Needs.{needs}
 use Rattle.fields.proofs.faults.number_fault.Statement.{statement}

@@ -1,6 +1,6 @@
 use borrow.Author.Needs.{needs}
-use Rattle.wire.proofs.Puts.{then-two}
-use Rattle.records.proofs.Whole.{mx-is}
+use Rattle.buffer.proofs.Puts.{then-two}
+use Rattle.records.proofs.Exchanger.{mx-is}
 use Rattle.records.proofs.resources.put_mx.Statement.{statement}
 use Rattle.records.proofs.resources.put_mx.Tie as tie
 

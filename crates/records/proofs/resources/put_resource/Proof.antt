@@ -1,6 +1,6 @@
 use borrow.Author.Needs.{needs}
-use Rattle.wire.proofs.Puts.{put·laws}
-use Rattle.records.proofs.Whole.{record-is}
+use Rattle.buffer.proofs.Puts.{put·laws}
+use Rattle.heads.proofs.Whole.{record-is}
 use Rattle.records.proofs.resources.put_resource.Statement.{statement}
 use Rattle.records.proofs.resources.put_resource.Tie as tie
 

@@ -1,0 +1,2 @@
+// The lines that say a host's address.
+pub mod aliases;

@@ -1,0 +1,2 @@
+// The line of an authority.
+pub mod authorities;

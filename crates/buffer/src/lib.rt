@@ -1,0 +1,2 @@
+// Bytes put at the front of a lent buffer.
+pub mod put;

@@ -1,0 +1,3 @@
+// lo and time.
+pub mod codes;
+pub mod times;

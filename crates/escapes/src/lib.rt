@@ -1,0 +1,2 @@
+// Texts with escapes.
+pub mod texts;

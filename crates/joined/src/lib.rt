@@ -1,0 +1,2 @@
+// The names that a line puts together, judged by their sizes.
+pub mod joined;

@@ -1,0 +1,2 @@
+// The kinds of line, and the table by kind.
+pub mod kinds;

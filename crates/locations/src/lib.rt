@@ -1,0 +1,2 @@
+// The line of a location.
+pub mod locations;

@@ -1,0 +1,2 @@
+// Names: judged, and put on the wire.
+pub mod names;

@@ -1,0 +1,3 @@
+// Numbers and digits.
+pub mod hex;
+pub mod numbers;

@@ -1,0 +1,2 @@
+// The lines whose data are a name.
+pub mod pointers;

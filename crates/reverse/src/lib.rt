@@ -1,0 +1,2 @@
+// The reverse names of addresses.
+pub mod reverse;

@@ -1,0 +1,2 @@
+// The lines of mail and of services.
+pub mod services;

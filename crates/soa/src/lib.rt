@@ -1,0 +1,2 @@
+// SOA records.
+pub mod soa;

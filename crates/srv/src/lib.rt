@@ -1,0 +1,2 @@
+// SRV records.
+pub mod srv;

@@ -1,0 +1,2 @@
+// The lines whose data are a text.
+pub mod texts;

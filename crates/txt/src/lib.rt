@@ -1,0 +1,2 @@
+// TXT records.
+pub mod txt;

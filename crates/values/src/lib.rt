@@ -1,0 +1,2 @@
+// The values of a line's fields.
+pub mod values;
