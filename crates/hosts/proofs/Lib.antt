@@ -1,5 +1,3 @@
-pub mod Label
-pub mod Giving
 pub mod Addressing
 pub mod HostReading
 pub mod HostRecords

@@ -1,0 +1,4 @@
+pub mod Piece
+pub mod Octet
+pub mod Taken
+pub mod Dotted

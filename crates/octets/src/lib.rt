@@ -1,0 +1,3 @@
+// IPv4: the numbers of an address or a prefix.
+pub mod octets;
+pub mod pieces;
