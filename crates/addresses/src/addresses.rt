@@ -4,7 +4,7 @@ ghost use Rattle.addresses.specs.Addresses.{dottedAddress, groupedAddres
 use groups::groups::address_bytes;
 use groups::groups::groups;
 use octets::octets::octets;
-use wire::get::has_byte;
+use pieces::pieces::has_byte;
 
 // The first len bytes: 4, 16, or none where the text is no address.
 pub struct AddressRead {

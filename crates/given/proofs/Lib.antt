@@ -1,2 +1,2 @@
-pub mod Label
 pub mod Giving
+pub mod Label

@@ -11,7 +11,7 @@ ghost use Rattle.given.specs.Given.{HostGood};
 use buffer::put::put_bytes;
 use names::names::Name;
 use names::names::read_name;
-use wire::get::has_byte;
+use pieces::pieces::has_byte;
 
 // The text as one label, at the front of out; an empty text is no label.
 fn put_label(out: &mut [u8], text: &[u8]) -> usize

@@ -15,9 +15,9 @@ use Rattle.rules.specs.Lists.{pick, joinAll, splitOn, be}
 use Rattle.rules.specs.Fields.{hexFrom, group, groupBytes, addressIf}
 use Rattle.wire.proofs.Steps.{take-put}
 use Rattle.groups.specs.Groups.{groupRead, groupOf, groupsBytes, groupsRead, IsGroups}
-use Rattle.octets.specs.Pieces.{IsEnd, piecesFrom}
+use Rattle.pieces.specs.Pieces.{IsEnd, piecesFrom}
 use Rattle.groups.specs.declared.groups.GroupRead.{GroupRead}
-use Rattle.octets.proofs.Piece.{piece-at, no-piece, all-pieces}
+use Rattle.pieces.proofs.Piece.{piece-at, no-piece, all-pieces}
 use Rattle.octets.proofs.Taken.{Taken, none-taken, taken, bad-piece, one-more, all-good, all-bytes, all-many, good-by, bad-by}
 
 -- the groups before start are read into the first count

@@ -2,7 +2,7 @@
 ghost use mathlib.Core.Path.{_≡_};
 ghost use Rattle.groups.specs.Groups.{groupRead, groupOf, groupsBytes, IsGroups};
 use numbers::hex::hex_digit;
-use octets::pieces::piece_end;
+use pieces::pieces::piece_end;
 
 pub enum GroupRead {
     Good(u16),

@@ -9,12 +9,12 @@ ghost use Rattle.rules.specs.Bytes.{wild, flagAndLo};
 ghost use Rattle.buffer.specs.Put.{IsPut};
 ghost use Rattle.heads.specs.Head.{ownerKey, keySize, flagOf, fixedFields, fixedSize, headOf, headSize};
 use buffer::put::put_byte;
-use buffer::put::put_le;
 use buffer::put::put_lowered;
 use buffer::put::put_two;
-use buffer::put::put_u16;
-use buffer::put::put_u32;
-use buffer::put::put_u64;
+use integers::integers::put_le;
+use integers::integers::put_u16;
+use integers::integers::put_u32;
+use integers::integers::put_u64;
 use rules::quantities::Lo;
 use rules::quantities::Shared;
 

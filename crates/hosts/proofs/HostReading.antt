@@ -27,9 +27,9 @@ use Rattle.values.specs.Ready.{Ready}
 use Rattle.names.specs.Held.{heldName, IsName}
 use Rattle.names.specs.declared.names.Name.{Name}
 use Rattle.given.specs.Given.{HostGood}
-use Rattle.hosts.specs.Hosts.{heldAddress, IsHeld}
+use Rattle.addresses.specs.HeldAddress.{heldAddress, IsHeld}
 use Rattle.hosts.specs.HostLines.{middleOf, namesHost, IsHostLine}
-use Rattle.hosts.proofs.Addressing.{held-address, is-held}
+use Rattle.addresses.proofs.HoldingAddress.{held-address, is-held}
 use Rattle.names.proofs.Holding.{held-short, held-long}
 use Rattle.values.proofs.Readiness.{named-done, ready-fields, done, joined-short, owner-named}
 

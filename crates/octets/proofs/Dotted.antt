@@ -13,9 +13,9 @@ use Rattle.rules.specs.Lists.{pick, splitOn}
 use Rattle.rules.specs.Fields.{decimalFrom, octet, octetByte, addressIf}
 use Rattle.wire.proofs.Steps.{take-put}
 use Rattle.octets.specs.Octets.{octetRead, octetOf, octetsRead, IsOctets}
-use Rattle.octets.specs.Pieces.{IsEnd, piecesFrom}
+use Rattle.pieces.specs.Pieces.{IsEnd, piecesFrom}
 use Rattle.octets.specs.declared.octets.OctetRead.{OctetRead}
-use Rattle.octets.proofs.Piece.{piece-at, no-piece, all-pieces}
+use Rattle.pieces.proofs.Piece.{piece-at, no-piece, all-pieces}
 use Rattle.octets.proofs.Taken.{Taken, none-taken, taken, bad-piece, one-more, all-good, all-bytes, all-many, good-by, bad-by}
 
 -- the numbers before start are read into the first count bytes

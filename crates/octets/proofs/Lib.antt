@@ -1,4 +1,3 @@
-pub mod Piece
+pub mod Dotted
 pub mod Octet
 pub mod Taken
-pub mod Dotted

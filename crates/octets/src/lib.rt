@@ -1,3 +1,2 @@
 // IPv4: the numbers of an address or a prefix.
 pub mod octets;
-pub mod pieces;

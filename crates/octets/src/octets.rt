@@ -1,9 +1,9 @@
 // IPv4: numbers 0 to 255 joined by dots, of which an address has four and a prefix up to four.
 ghost use mathlib.Core.Path.{_≡_};
 ghost use Rattle.octets.specs.Octets.{octetRead, leadingZero, octetOf, IsOctets};
-use crate::pieces::piece_end;
 use numbers::numbers::NumberRead;
 use numbers::numbers::number;
+use pieces::pieces::piece_end;
 
 pub enum OctetRead {
     Good(u8),
