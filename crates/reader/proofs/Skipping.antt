@@ -1,14 +1,14 @@
 -- The records before the first that can answer are passed over: none has a rank, so none is of any level.
-use mathlib.Core.Path.{_≡_, refl, ap, _∙_, sym}
+use mathlib.Core.Path.{_≡_, refl, _∙_, sym}
 use mathlib.Core.Bool.{Bool, true, false, not, _&&_, _||_}
-use mathlib.Core.List.{List, [], map}
+use mathlib.Core.List.{List, []}
 use Prim.Native.Nat.{ℕ, _-_, max}
 use native.Mathlib.Omega.{arith}
 use borrow.Author.Needs.{needs}
 use borrow.Author.Tests.{eq-eqb, ne-eqb, eqb-true}
-use lib.ListN.{length, take, drop}
+use lib.ListN.{take, drop}
 use lib.Dec.{eqb}
-use Rattle.rules.specs.Lists.{pick, lower, sameBytes, isSome, valueOr}
+use Rattle.rules.specs.Lists.{pick, sameBytes, valueOr}
 use Rattle.rules.specs.Questions.{ancestors}
 use Rattle.rules.specs.Reading.{recordIn, decode}
 use Rattle.stream.specs.declared.head.Span.{Span}
