@@ -139,4 +139,4 @@ module _ (source : List ℕ) (serial : ℕ) (out out′ : List ℕ) (a : Answer)
           meaning = λ ok room askable. (reply, (refl, rw (e, count-is) (tells-in source serial out ok room out′ (c .output) q ordinal askable)));
         }
 
-pub ruleset serve·laws = (needs, not-compiled, written-fits, written-count, served)
+pub ruleset serve·laws = (needs, written-fits, written-count)

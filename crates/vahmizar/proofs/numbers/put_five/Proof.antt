@@ -4,25 +4,25 @@ use Rattle.vahmizar.proofs.numbers.put_five.Statement.{statement}
 use Rattle.vahmizar.proofs.numbers.put_five.Tie as tie
 
 put-le-requires : tie.Need-put-le-requires
-put-le-requires c κs = search (needs, then-is)
+put-le-requires c κs = search needs
 
 sub-put-four : tie.Need-sub-put-four
-sub-put-four c = search (needs, then-is)
+sub-put-four c = search needs
 
 part-put-four-start : tie.Need-part-put-four-start
-part-put-four-start c = search (needs, then-is)
+part-put-four-start c = search needs
 
 part-put-four-end : tie.Need-part-put-four-end
-part-put-four-end c = search (needs, then-is)
+part-put-four-end c = search needs
 
 put-four-requires : tie.Need-put-four-requires
-put-four-requires c κs = search (needs, then-is)
+put-four-requires c κs = search needs
 
 add-result : tie.Need-add-result
-add-result c = search (needs, then-is)
+add-result c = search needs
 
 same-length : tie.Need-same-length
-same-length c = search (needs, then-is)
+same-length c = search needs
 
 returns : tie.Need-returns
 returns c = search (needs, then-is)

@@ -4,25 +4,25 @@ use Rattle.vahmizar.proofs.numbers.put_four.Statement.{statement}
 use Rattle.vahmizar.proofs.numbers.put_four.Tie as tie
 
 put-pair-requires : tie.Need-put-pair-requires
-put-pair-requires c κs = search (needs, then-is)
+put-pair-requires c κs = search needs
 
 sub-put-pair : tie.Need-sub-put-pair
-sub-put-pair c = search (needs, then-is)
+sub-put-pair c = search needs
 
 part-put-pair-start : tie.Need-part-put-pair-start
-part-put-pair-start c = search (needs, then-is)
+part-put-pair-start c = search needs
 
 part-put-pair-end : tie.Need-part-put-pair-end
-part-put-pair-end c = search (needs, then-is)
+part-put-pair-end c = search needs
 
 put-pair-requires-2 : tie.Need-put-pair-requires-2
-put-pair-requires-2 c κs = search (needs, then-is)
+put-pair-requires-2 c κs = search needs
 
 add-result : tie.Need-add-result
-add-result c = search (needs, then-is)
+add-result c = search needs
 
 same-length : tie.Need-same-length
-same-length c = search (needs, then-is)
+same-length c = search needs
 
 returns : tie.Need-returns
 returns c = search (needs, then-is)

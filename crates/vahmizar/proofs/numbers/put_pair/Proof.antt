@@ -4,25 +4,25 @@ use Rattle.vahmizar.proofs.numbers.put_pair.Statement.{statement}
 use Rattle.vahmizar.proofs.numbers.put_pair.Tie as tie
 
 put-le-requires : tie.Need-put-le-requires
-put-le-requires c κs = search (needs, then-is)
+put-le-requires c κs = search needs
 
 sub-put-le : tie.Need-sub-put-le
-sub-put-le c = search (needs, then-is)
+sub-put-le c = search needs
 
 part-put-le-start : tie.Need-part-put-le-start
-part-put-le-start c = search (needs, then-is)
+part-put-le-start c = search needs
 
 part-put-le-end : tie.Need-part-put-le-end
-part-put-le-end c = search (needs, then-is)
+part-put-le-end c = search needs
 
 put-le-requires-2 : tie.Need-put-le-requires-2
-put-le-requires-2 c κs = search (needs, then-is)
+put-le-requires-2 c κs = search needs
 
 add-result : tie.Need-add-result
-add-result c = search (needs, then-is)
+add-result c = search needs
 
 same-length : tie.Need-same-length
-same-length c = search (needs, then-is)
+same-length c = search needs
 
 returns : tie.Need-returns
 returns c = search (needs, then-is)
