@@ -22,7 +22,7 @@ use Rattle.rules.proofs.Decoding.{lower-fixed}
 use Rattle.stream.specs.declared.record.Seen.{Seen}
 use Rattle.keys.specs.Keys.{goodKey}
 use Rattle.stream.specs.Seen.{ownerOf, seenRecord}
-use Rattle.level.specs.Views.{sharing}
+use Rattle.view.specs.Views.{sharing}
 use Rattle.level.specs.Ranks.{rankAmong, rankOf, among, keyRank, seenRank, rankIn}
 use Rattle.stream.proofs.Shapes.{Shape, shape, shaped, is-false}
 

@@ -11,9 +11,6 @@ ghost use Rattle.rules.specs.Records.{loBytes};
 ghost use Rattle.rules.specs.Questions.{ancestors};
 ghost use Rattle.rules.specs.Reading.{recordIn, decode};
 ghost use Rattle.level.specs.Ranks.{among, keyRank, rankIn, seenRank, largest};
-
-pub mod view;
-
 use rules::quantities::Lo;
 use stream::head::span_at;
 use stream::record::Seen;

@@ -2,4 +2,5 @@ pub mod Heads
 pub mod Spans
 pub mod SeenRecords
 pub mod Meanings
+pub mod ByKeys
 pub mod Shapes

@@ -1,4 +1,4 @@
-use Rattle.stream.proofs.Meanings.{location-key·laws}
+use Rattle.stream.proofs.ByKeys.{location-key·laws}
 use Rattle.stream.proofs.record.is_location.Statement.{statement}
 use Rattle.stream.proofs.record.is_location.Tie as tie
 

@@ -1,4 +1,4 @@
-use Rattle.stream.proofs.Meanings.{location·laws}
+use Rattle.stream.proofs.ByKeys.{location·laws}
 use Rattle.stream.proofs.record.location_in.Statement.{statement}
 use Rattle.stream.proofs.record.location_in.Tie as tie
 

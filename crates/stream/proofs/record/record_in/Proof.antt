@@ -1,4 +1,4 @@
-use Rattle.stream.proofs.Meanings.{record·laws}
+use Rattle.stream.proofs.ByKeys.{record·laws}
 use Rattle.stream.proofs.record.record_in.Statement.{statement}
 use Rattle.stream.proofs.record.record_in.Tie as tie
 

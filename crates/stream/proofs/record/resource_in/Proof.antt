@@ -1,4 +1,4 @@
-use Rattle.stream.proofs.Meanings.{type·laws}
+use Rattle.stream.proofs.ByKeys.{type·laws}
 use Rattle.stream.proofs.record.resource_in.Statement.{statement}
 use Rattle.stream.proofs.record.resource_in.Tie as tie
 
