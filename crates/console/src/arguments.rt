@@ -36,20 +36,18 @@ pub fn argument(i: usize, buf: &mut [u8]) -> Front
     Front { whole: true, len }
 }
 
-// A serial: a decimal number of 32 bits.
+// A serial: a decimal number of 32 bits. Where the text is none, standard error says so.
 pub fn serial(text: &[u8]) -> SerialRead
     ensures { λ r. ⌜ serialRead r ≡ numberOf largestLong (now (text .entry)) ⌝ }
 {
     match number(text, 4294967295) {
         NumberRead::Good(value) => SerialRead::Good(value as u32),
-        NumberRead::Bad => SerialRead::Bad,
+        NumberRead::Bad => {
+            io::write_all(
+                STDERR_FILENO,
+                b"SERIAL is not a decimal number up to 4294967295\n",
+            );
+            SerialRead::Bad
+        },
     }
-}
-
-// Says that a serial is none.
-pub fn refuse_serial() -> bool {
-    io::write_all(
-        STDERR_FILENO,
-        b"SERIAL is not a decimal number up to 4294967295\n",
-    )
 }

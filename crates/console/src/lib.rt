@@ -4,5 +4,5 @@ pub mod arguments;
 pub mod compiled;
 pub mod files;
 pub mod hex;
-pub mod reports;
+mod reports;
 pub mod words;

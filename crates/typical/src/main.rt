@@ -2,7 +2,6 @@
 // exit status of its own choice.
 use console::arguments::SerialRead;
 use console::arguments::argument;
-use console::arguments::refuse_serial;
 use console::arguments::serial;
 use console::compiled::compile_file;
 use console::compiled::records_buffer;
@@ -32,9 +31,7 @@ fn with_serial(path: &[u8]) {
     }
     match serial(&text[..len]) {
         SerialRead::Good(value) => print_records(path, value),
-        SerialRead::Bad => {
-            refuse_serial();
-        },
+        SerialRead::Bad => {},
     }
 }
 

@@ -1,0 +1,41 @@
+use Rattle.questions.proofs.Insides.{answered-inside}
+use borrow.Author.Needs.{needs}
+use Rattle.lookup.proofs.print.print_answer.Statement.{statement}
+use Rattle.lookup.proofs.print.print_answer.Tie as tie
+
+answer-line-requires : tie.Need-answer-line-requires
+answer-line-requires c κs = search (answered-inside, needs)
+
+enum-known-reply : tie.Need-enum-known-reply
+enum-known-reply c = search (answered-inside, needs)
+
+print-question-requires : tie.Need-print-question-requires
+print-question-requires c κs = search (answered-inside, needs)
+
+print-reply-requires : tie.Need-print-reply-requires
+print-reply-requires c κs = search (answered-inside, needs)
+
+enum-told : tie.Need-enum-told
+enum-told c = search (answered-inside, needs)
+
+refuse-line-requires : tie.Need-refuse-line-requires
+refuse-line-requires c κs = search (answered-inside, needs)
+
+returns : tie.Need-returns
+returns c = search (answered-inside, needs)
+
+returns-2 : tie.Need-returns-2
+returns-2 c = search (answered-inside, needs)
+
+pub print-answer-spec : {M : Type 1} → statement M
+print-answer-spec =
+    tie.close
+    (tie.spec
+    answer-line-requires
+    enum-known-reply
+    print-question-requires
+    print-reply-requires
+    enum-told
+    refuse-line-requires
+    returns
+    returns-2)

@@ -1,0 +1,4 @@
+pub mod MomentDigits
+pub mod Spacing
+pub mod Reading
+pub mod Insides

@@ -1,0 +1,4 @@
+pub mod Questions
+pub mod Views
+pub mod Replies
+pub mod Places
