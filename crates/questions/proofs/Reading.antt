@@ -32,7 +32,7 @@ use Rattle.names.specs.declared.names.Name.{Name}
 use Rattle.questions.specs.Questions.{momentOf, Asker, askerOf, Asked, askedOf, questionFrom, questionIn, questionOf}
 use Rattle.questions.specs.Views.{momentRead, askerRead, IsAsker, IsWithin, IsNameRead, askedRead, IsAsked, spansRead, IsSpans, heldQuestion, questionRead, IsQuestion}
 use Rattle.questions.specs.Replies.{lineReply}
-use Rattle.questions.specs.declared.pieces.Spans.{Spans}
+use Rattle.questions.specs.declared.spans.Spans.{Spans}
 use Rattle.questions.specs.declared.questions.QuestionRead.{QuestionRead}
 use Rattle.questions.specs.declared.questions.LineReply.{LineReply}
 use Rattle.questions.specs.declared.moments.MomentRead.{MomentRead}

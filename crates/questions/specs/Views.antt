@@ -17,7 +17,7 @@ use Rattle.questions.specs.declared.askers.AskerRead.{AskerRead}
 use Rattle.questions.specs.declared.moments.MomentRead.{MomentRead}
 use Rattle.questions.specs.declared.asked.NameRead.{NameRead}
 use Rattle.questions.specs.declared.asked.AskedRead.{AskedRead}
-use Rattle.questions.specs.declared.pieces.Spans.{Spans}
+use Rattle.questions.specs.declared.spans.Spans.{Spans}
 use Rattle.questions.specs.declared.questions.QuestionRead.{QuestionRead}
 
 abbrev pub momentRead : MomentRead → Option ℕ

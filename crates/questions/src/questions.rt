@@ -8,7 +8,7 @@ ghost use Rattle.questions.specs.Views.{IsQuestion, IsWithin, heldQuesti
 ghost use Rattle.questions.specs.Replies.{lineReply};
 use crate::asked::read_asked;
 use crate::askers::read_asker;
-use crate::pieces::split_line;
+use crate::spans::split_line;
 use addresses::addresses::AddressRead;
 use names::names::Name;
 use reader::ask;

@@ -1,25 +1,8 @@
 // Four pieces between spaces.
 ghost use mathlib.Core.Path.{_≡_};
-ghost use Prim.Native.Nat.{_≤_};
-ghost use lib.ListN.{length};
-ghost use Rattle.addresses.specs.Pieces.{IsEnd};
+ghost use Rattle.pieces.specs.Pieces.{IsEnd};
 ghost use Rattle.questions.specs.Views.{IsSpans, noSpans};
-
-// Where the piece that begins at start ends: at the next byte b, or at the text's end.
-fn piece_end(text: &[u8], start: usize, b: u8) -> usize
-    requires { ⌜ start ≤ length (now text) ⌝ }
-    ensures { λ r. ⌜ IsEnd b (now (text .entry)) start r ⌝ }
-{
-    let n = text.len();
-    let mut i = start;
-    while i < n {
-        if text[i] == b {
-            return i;
-        }
-        i += 1;
-    }
-    i
-}
+use pieces::pieces::piece_end;
 
 // Where the first line ends: at byte 10, or at the text's end.
 pub fn line_end(text: &[u8]) -> usize

@@ -1,6 +1,6 @@
 use Rattle.questions.proofs.Spacing.{space·laws}
-use Rattle.questions.proofs.pieces.split_line.Statement.{statement}
-use Rattle.questions.proofs.pieces.split_line.Tie as tie
+use Rattle.questions.proofs.spans.split_line.Statement.{statement}
+use Rattle.questions.proofs.spans.split_line.Tie as tie
 
 piece-end-requires : tie.Need-piece-end-requires
 piece-end-requires c κs = search space·laws
