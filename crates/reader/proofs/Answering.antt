@@ -1,53 +1,25 @@
 -- The records of the largest rank and of a type are the answer of the rules.
 use mathlib.Core.Path.{_≡_, refl, ap, _∙_, sym}
-use mathlib.Core.Bool.{Bool, true, false, not, _&&_}
+use mathlib.Core.Bool.{Bool, true, false, _&&_}
 use mathlib.Core.List.{List, [], _∷_, map}
-use Prim.Native.Nat.{ℕ, zero, suc, _+_, _≤_, max}
+use Prim.Native.Nat.{ℕ, _+_, _≤_, max}
 use native.Mathlib.Omega.{arith}
 use borrow.Author.Needs.{needs}
 use borrow.Author.Tests.{eq-eqb, ne-eqb}
-use mir.Facts.{yes-and, yes-leb}
-use lib.Arith.{lt→nleb}
-use lib.ListN.{length-map}
-use lib.Dec.{T, eqb, leb}
+use lib.ListN.{length, drop}
+use lib.Dec.{eqb}
 use Rattle.rules.specs.declared.replies.Reply.{Reply}
-use Rattle.rules.specs.Lists.{pick, keep, lower}
-use Rattle.rules.specs.Names.{labels, isWire}
+use Rattle.rules.specs.Lists.{pick, keep, lower, isSome, valueOr}
+use Rattle.rules.specs.Names.{isWire}
 use Rattle.rules.specs.Records.{Record}
 use Rattle.rules.specs.Bytes.{size}
 use Rattle.rules.specs.Questions.{Placed, placedFrom, visible, level, ofType}
-use Rattle.rules.specs.Reading.{replyOf}
-use Rattle.rules.proofs.Tests.{tests}
-use Rattle.rules.proofs.Names.{Wire, wire-of, labels-of, short-of}
-use Rattle.rules.proofs.Decoding.{lower-fixed}
-use Rattle.reader.specs.Ranks.{rankOf, largest, chosen, seenRank}
+use Rattle.rules.specs.Reading.{replyOf, decode}
+use Rattle.rules.proofs.Decoding.{wire-lower}
+use Rattle.level.specs.Ranks.{rankOf, largest, chosen, seenRank}
 use Rattle.reader.specs.Answers.{wanted, pickedFrom, answeredFrom}
-use Rattle.reader.proofs.Levels.{level-is}
-
--- ---- the asked name, lowered, is a name still
-
-below-letters : (b : ℕ) → b ≤ 63 → lower b ≡ b
-below-letters b h = lower-fixed b (go (leb 65 b) (leb b 90) (lt→nleb 65 b (omega arith)))
-  where
-    go : (a b : Bool) → T (not a) → T (not (a && b))
-    go true b t = absurd t
-    go false b t = tt
-
-labels-lowered : (k : ℕ) (n : List ℕ) → T (labels k n) → T (labels k (map lower n))
-unfolding labels
-labels-lowered zero [] t = t
-labels-lowered zero (zero ∷ []) t = rw (below-letters 0 (omega arith)) tt
-labels-lowered zero (zero ∷ x ∷ n) t = absurd t
-labels-lowered zero (suc k ∷ n) t =
-    let h : suc k ≤ 63 = search tests in
-    rw (below-letters (suc k) h) (yes-and (leb (suc k) 63) _ (yes-leb h) (labels-lowered (suc k) n (search tests)))
-labels-lowered (suc k) [] t = t
-labels-lowered (suc k) (x ∷ n) t = labels-lowered k n t
-
-wire-lowered : (n : List ℕ) → isWire n ≡ true → Wire (map lower n)
-wire-lowered n e =
-    let t : Wire n = rw e tt in
-    wire-of (map lower n) (omega (arith, length-map n lower, short-of n t)) (labels-lowered 0 n (labels-of n t))
+use Rattle.reader.specs.Skips.{Skips}
+use Rattle.level.proofs.Levels.{level-is}
 
 -- ---- level and type in one test
 
@@ -82,8 +54,20 @@ unfolding largest placedFrom
 largest-placed f at [] = refl
 largest-placed f at (r ∷ rs) = rw (largest-placed f (at + size r) rs)
 
-module _ (type : ℕ) (name here : List ℕ) (moment ordinal : ℕ) (rs : List Record) (best : ℕ) (wire : isWire name ≡ true)
-    (b : best ≡ largest (seenRank (map lower name) here moment) rs) where
+-- ---- what is passed over
+
+module _ (name stream : List ℕ) (from : ℕ) (s : Skips name stream from) where
+  pub rest-inside : from ≤ length stream
+  rest-inside = s .inside
+
+  pub rest-whole : isSome (decode stream) ≡ true → isSome (decode (drop from stream)) ≡ true
+  rest-whole w = s .rest w
+
+module _ (type : ℕ) (name here : List ℕ) (moment ordinal : ℕ) (stream : List ℕ) (from best : ℕ) (wire : isWire name ≡ true) (w : isSome (decode stream) ≡ true) (s : Skips (map lower name) stream from)
+    (b : best ≡ largest (seenRank (map lower name) here moment) (valueOr [] (decode (drop from stream)))) where
+  abbrev rs : List Record
+  rs = valueOr [] (decode stream)
+
   abbrev lname : List ℕ
   lname = map lower name
 
@@ -91,17 +75,17 @@ module _ (type : ℕ) (name here : List ℕ) (moment ordinal : ℕ) (rs : List R
   seen = keep (λ p. visible here moment (p .rec)) (placedFrom 0 rs)
 
   best-is : largest (λ p. rankOf lname (p .rec)) seen ≡ best
-  best-is = largest-seen type lname here moment (placedFrom 0 rs) ∙ largest-placed (seenRank lname here moment) 0 rs ∙ sym b
+  best-is = largest-seen type lname here moment (placedFrom 0 rs) ∙ largest-placed (seenRank lname here moment) 0 rs ∙ sym (b ∙ s .ranks here moment w)
 
   level-best : level lname seen ≡ pick (eqb best 0) [] (keep (λ p. eqb (rankOf lname (p .rec)) best) seen)
-  level-best = level-is lname (wire-lowered name wire) seen ∙ unfold chosen in rw best-is
+  level-best = level-is lname (wire-lower name (rw wire tt)) seen ∙ unfold chosen in rw best-is
 
   pub no-level : best ≡ 0 → Reply.NoMore ≡ answeredFrom type lname here moment ordinal rs
   unfolding answeredFrom replyOf
   no-level z = rw (level-best, eq-eqb best 0 z) (unfold keep pick in refl)
 
-  pub of-level : (r : Reply) → (best ≡ 0 → ⊥) → r ≡ pickedFrom type lname here moment best 0 ordinal rs → r ≡ answeredFrom type lname here moment ordinal rs
+  pub of-level : (r : Reply) → (best ≡ 0 → ⊥) → r ≡ pickedFrom type lname here moment best from ordinal (valueOr [] (decode (drop from stream))) → r ≡ answeredFrom type lname here moment ordinal rs
   unfolding answeredFrom pickedFrom pick
-  of-level r z e = e ∙ sym (rw (level-best, ne-eqb best 0 z, all-wanted type lname here moment best z (placedFrom 0 rs)))
+  of-level r z e = e ∙ s .picks type here moment best ordinal w z ∙ sym (rw (level-best, ne-eqb best 0 z, all-wanted type lname here moment best z (placedFrom 0 rs)))
 
-pub ruleset answer·laws = (needs, no-level, of-level)
+pub ruleset answer·laws = (needs, rest-inside, rest-whole, no-level, of-level)

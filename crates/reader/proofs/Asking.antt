@@ -19,7 +19,8 @@ use Rattle.rules.specs.Bytes.{size}
 use Rattle.rules.specs.Questions.{Question, Placed, placedFrom, locationOf, answers}
 use Rattle.rules.specs.Reading.{momentEnd, isClient, decode, replyFrom, replyDecoded, askReply}
 use Rattle.reader.specs.declared.locate.Judged.{Judged}
-use Rattle.reader.specs.Locations.{locatedIn, judgedLo}
+use Rattle.reader.specs.Locations.{locatedIn, judgedLo, fromIn}
+use Rattle.reader.specs.Skips.{Skips}
 use Rattle.reader.specs.Answers.{answeredFrom}
 
 -- ---- the client
@@ -46,20 +47,20 @@ replied : (q : Question) (ordinal : ℕ) (rs : List Record)
 unfolding replyFrom answers answeredFrom
 replied q ordinal rs = rw (placed-back 0 rs)
 
-module _ (client : List ℕ) (here : Lo) where
-  located : (o : Option (List Record)) → judgedLo (Judged.Whole here) ≡ locatedIn client o → isSome o ≡ true
+module _ (client : List ℕ) (here : Lo) (from : ℕ) where
+  located : (o : Option (List Record)) → judgedLo (Judged.Whole here from) ≡ locatedIn client o → isSome o ≡ true
   unfolding judgedLo locatedIn isSome
   located none e = let z : _≡_ {A = ℕ} 0 1 = cc in absurd (omega arith)
   located (some rs) e = refl
 
-  located-here : (o : Option (List Record)) → judgedLo (Judged.Whole here) ≡ locatedIn client o → loBytes here ≡ locationOf client (valueOr [] o)
+  located-here : (o : Option (List Record)) → judgedLo (Judged.Whole here from) ≡ locatedIn client o → loBytes here ≡ locationOf client (valueOr [] o)
   unfolding judgedLo locatedIn valueOr
   located-here none e = let z : _≡_ {A = ℕ} 0 1 = cc in absurd (omega arith)
   located-here (some rs) e = cc
 
 module _ (stream client : List ℕ) (j : Judged) (e : judgedLo j ≡ locatedIn client (decode stream)) where
-  pub judged-whole : (here : Lo) → j ≡ Judged.Whole here → isSome (decode stream) ≡ true
-  judged-whole here w = located client here (decode stream) (rw w at e)
+  pub judged-whole : (here : Lo) (from : ℕ) → j ≡ Judged.Whole here from → isSome (decode stream) ≡ true
+  judged-whole here from w = located client here from (decode stream) (rw w at e)
 
   not-whole : (q : Question) (ordinal : ℕ) → j ≡ Judged.Broken → Reply.Refused AskFault.Records ≡ replyDecoded (decode stream) q ordinal
   not-whole q ordinal w = go (decode stream) (rw w at e)
@@ -68,14 +69,18 @@ module _ (stream client : List ℕ) (j : Judged) (e : judgedLo j ≡ locatedIn c
       go none e = unfold replyDecoded in refl
       go (some rs) e = unfold judgedLo locatedIn in (let z : _≡_ {A = ℕ} 0 1 = cc in absurd (omega arith))
 
-  whole-reply : (q : Question) (ordinal : ℕ) (here : Lo) (r : Reply) → q .client ≡ client → j ≡ Judged.Whole here
+  whole-reply : (q : Question) (ordinal : ℕ) (here : Lo) (from : ℕ) (r : Reply) → q .client ≡ client → j ≡ Judged.Whole here from
       → r ≡ answeredFrom (q .type) (map lower (q .name)) (loBytes here) (q .moment) ordinal (valueOr [] (decode stream)) → r ≡ replyDecoded (decode stream) q ordinal
-  whole-reply q ordinal here r k w a = go (decode stream) (rw w at e) a
+  whole-reply q ordinal here from r k w a = go (decode stream) (rw w at e) a
     where
-      go : (o : Option (List Record)) → judgedLo (Judged.Whole here) ≡ locatedIn client o
+      go : (o : Option (List Record)) → judgedLo (Judged.Whole here from) ≡ locatedIn client o
           → r ≡ answeredFrom (q .type) (map lower (q .name)) (loBytes here) (q .moment) ordinal (valueOr [] o) → r ≡ replyDecoded o q ordinal
       go none e a = unfold judgedLo locatedIn in (let z : _≡_ {A = ℕ} 0 1 = cc in absurd (omega arith))
-      go (some rs) e a = unfold replyDecoded in (a ∙ rw (located-here client here (some rs) e, ← k) (unfold valueOr in sym (replied q ordinal rs)))
+      go (some rs) e a = unfold replyDecoded in (a ∙ rw (located-here client here from (some rs) e, ← k) (unfold valueOr in sym (replied q ordinal rs)))
+
+pub judged-skips : (name stream : List ℕ) (j : Judged) (here : Lo) (from : ℕ) → Skips name stream (fromIn j) → j ≡ Judged.Whole here from → Skips name stream from
+unfolding fromIn
+judged-skips name stream j here from s w = rw w at s
 
 -- ---- the refusals
 
@@ -108,8 +113,8 @@ module _ (stream name client : List ℕ) (type moment ordinal : ℕ) (t : Bool) 
         pub no-records : j ≡ Judged.Broken → Reply.Refused AskFault.Records ≡ askReply stream question ordinal
         no-records w = not-whole stream client j e question ordinal w ∙ sym decided
 
-        pub is-answered : (here : Lo) (r : Reply) → j ≡ Judged.Whole here
+        pub is-answered : (here : Lo) (from : ℕ) (r : Reply) → j ≡ Judged.Whole here from
             → r ≡ answeredFrom type (map lower name) (loBytes here) moment ordinal (valueOr [] (decode stream)) → r ≡ askReply stream question ordinal
-        is-answered here r w a = whole-reply stream client j e question ordinal here r refl w a ∙ sym decided
+        is-answered here from r w a = whole-reply stream client j e question ordinal here from r refl w a ∙ sym decided
 
-pub ruleset ask·laws = (needs, judged-whole, no-name, no-moment, is-name, no-client, no-records, is-answered)
+pub ruleset ask·laws = (needs, judged-whole, judged-skips, no-name, no-moment, is-name, no-client, no-records, is-answered)

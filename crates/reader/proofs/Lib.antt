@@ -1,10 +1,5 @@
-pub mod Levels
-pub mod Shapes
-pub mod Locating
-pub mod Viewing
-pub mod Ranking
-pub mod KeyRanks
-pub mod Bests
 pub mod Picking
+pub mod Skipping
+pub mod Locating
 pub mod Answering
 pub mod Asking

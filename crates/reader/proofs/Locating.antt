@@ -24,8 +24,10 @@ use Rattle.stream.specs.Spans.{part, IsSpan}
 use Rattle.stream.proofs.Heads.{decode-nil}
 use Rattle.reader.specs.declared.locate.Located.{Located}
 use Rattle.reader.specs.declared.locate.Judged.{Judged}
-use Rattle.reader.specs.Locations.{betterIn, locatedIn, locatedFrom, bestSeen, judgedLo}
-use Rattle.reader.proofs.Shapes.{shaped}
+use Rattle.reader.specs.Locations.{betterIn, locatedIn, locatedFrom, bestSeen, judgedLo, fromIn}
+use Rattle.reader.specs.Skips.{Skips}
+use Rattle.reader.proofs.Skipping.{skips-none, skips-more}
+use Rattle.stream.proofs.Shapes.{shaped}
 
 -- ---- a prefix
 
@@ -120,8 +122,17 @@ module _ (client stream : List ℕ) (lo : Lo) (least at : ℕ)
         → locatedFrom client (record { lo = loBytes best; atLeast = most }) (decode (drop (span .next) stream)) ≡ locatedIn client (decode stream)
     goes-on best most b = unfold bestSeen in sym (onto-some client _ _ _ (decode (drop (span .next) stream)) (sym q ∙ ap bestSeen b)) ∙ left
 
-  pub all-judged : length stream ≤ at → judgedLo (Judged.Whole lo) ≡ locatedIn client (decode stream)
+  pub all-judged : (from : ℕ) → length stream ≤ at → judgedLo (Judged.Whole lo from) ≡ locatedIn client (decode stream)
   unfolding locatedFrom bestOf judgedLo
-  all-judged h = rw (drop-of-length-le stream h, decode-nil) at e
+  all-judged from h = rw (drop-of-length-le stream h, decode-nil) at e
 
-pub ruleset locate·laws = (needs, from-start, malformed, goes-on, all-judged)
+module _ (name stream : List ℕ) where
+  pub nothing-skipped : Skips name stream (fromIn Judged.Broken)
+  unfolding fromIn
+  nothing-skipped = skips-none name stream
+
+  pub skipped-there : (lo : Lo) (from : ℕ) → Skips name stream from → Skips name stream (fromIn (Judged.Whole lo from))
+  unfolding fromIn
+  skipped-there lo from s = s
+
+pub ruleset locate·laws = (needs, from-start, malformed, goes-on, all-judged, skips-none, skips-more, nothing-skipped, skipped-there)

@@ -24,11 +24,11 @@ use Rattle.stream.specs.declared.record.Seen.{Seen}
 use Rattle.stream.specs.Seen.{ownerOf, seenRecord, fixedIn}
 use Rattle.stream.specs.Spans.{IsSpan}
 use Rattle.stream.proofs.Heads.{decode-nil}
-use Rattle.reader.specs.Views.{sharing}
-use Rattle.reader.specs.Ranks.{seenRank, rankIn}
+use Rattle.level.specs.Views.{sharing}
+use Rattle.level.specs.Ranks.{seenRank, rankIn}
 use Rattle.reader.specs.Answers.{wanted, wantedIn, replyIn, pickedFrom}
-use Rattle.reader.proofs.Shapes.{shaped, size-is}
-use Rattle.reader.proofs.Bests.{Whole, whole-at, rest-whole}
+use Rattle.stream.proofs.Shapes.{shaped, size-is}
+use Rattle.level.proofs.Bests.{Whole, whole-at, rest-whole}
 
 -- ---- one record
 

@@ -1,4 +1,3 @@
-pub mod Ranks
 pub mod Locations
-pub mod Views
 pub mod Answers
+pub mod Skips

@@ -27,4 +27,9 @@ bestSeen (Located.Best lo least) = some (record { lo = loBytes lo; atLeast = lea
 
 unfoldable pub judgedLo : Judged → Option (List ℕ)
 judgedLo Judged.Broken = none
-judgedLo (Judged.Whole lo) = some (loBytes lo)
+judgedLo (Judged.Whole lo from) = some (loBytes lo)
+
+-- where the records that can answer begin
+unfoldable pub fromIn : Judged → ℕ
+fromIn Judged.Broken = 0
+fromIn (Judged.Whole lo from) = from

@@ -3,15 +3,16 @@ ghost use mathlib.Core.Path.{_≡_};
 ghost use mathlib.Core.Bool.{true};
 ghost use mathlib.Core.List.{[], map};
 ghost use Prim.Native.Nat.{_≤_};
-ghost use lib.ListN.{length};
+ghost use lib.ListN.{length, drop};
 ghost use Rattle.rules.specs.Lists.{lower, isSome, valueOr};
 ghost use Rattle.rules.specs.Names.{isWire};
 ghost use Rattle.rules.specs.Records.{loBytes};
 ghost use Rattle.rules.specs.Reading.{recordIn, decode};
 ghost use Rattle.reader.specs.Answers.{wantedIn, replyIn, pickedFrom, answeredFrom};
-use crate::level::best_rank;
-use crate::level::rank_in;
-use crate::view::lifetime;
+ghost use Rattle.reader.specs.Skips.{Skips};
+use level::best_rank;
+use level::rank_in;
+use level::view::lifetime;
 use rules::quantities::Lo;
 use rules::replies::Reply;
 use stream::head::span_at;
@@ -77,7 +78,7 @@ fn reply_in(moment: u64, end: usize, key: &[u8], rdata: &[u8]) -> Reply
     }
 }
 
-// The record of this ordinal, from 0, among those of a rank and a type in a stream of whole records.
+// The record of this ordinal, from 0, among those of a rank and a type in a stream of whole records from a place on.
 fn pick_record(
     stream: &[u8],
     name: &[u8],
@@ -86,13 +87,15 @@ fn pick_record(
     moment: u64,
     best: usize,
     ordinal: u64,
+    from: usize,
 ) -> Reply
-    requires { ⌜ isSome (decode (now stream)) ≡ true ⌝ }
-    ensures { λ r. ⌜ r ≡ pickedFrom qtype (map lower (now (name .entry))) (loBytes here) moment best 0 ordinal (valueOr [] (decode (now (stream .entry)))) ⌝ }
+    requires { ⌜ from ≤ length (now stream) ⌝ }
+    requires { ⌜ isSome (decode (drop from (now stream))) ≡ true ⌝ }
+    ensures { λ r. ⌜ r ≡ pickedFrom qtype (map lower (now (name .entry))) (loBytes here) moment best from ordinal (valueOr [] (decode (drop from (now (stream .entry))))) ⌝ }
 {
     let n = stream.len();
     let mut left = ordinal;
-    let mut at: usize = 0;
+    let mut at = from;
     while at < n {
         let span = span_at(stream, at);
         let start = span.start;
@@ -119,15 +122,24 @@ fn pick_record(
     Reply::NoMore
 }
 
-// The answer of a stream of whole records to a client who is here.
-pub fn answer(stream: &[u8], name: &[u8], qtype: u16, here: Lo, moment: u64, ordinal: u64) -> Reply
+// The answer of a stream of whole records to a client who is here. Nothing before the place given can answer.
+pub fn answer(
+    stream: &[u8],
+    name: &[u8],
+    qtype: u16,
+    here: Lo,
+    moment: u64,
+    ordinal: u64,
+    from: usize,
+) -> Reply
     requires { ⌜ isWire (now name) ≡ true ⌝ }
     requires { ⌜ isSome (decode (now stream)) ≡ true ⌝ }
+    requires { ⌜ Skips (map lower (now name)) (now stream) from ⌝ }
     ensures { λ r. ⌜ r ≡ answeredFrom qtype (map lower (now (name .entry))) (loBytes here) moment ordinal (valueOr [] (decode (now (stream .entry)))) ⌝ }
 {
-    let best = best_rank(stream, name, here, moment);
+    let best = best_rank(stream, name, here, moment, from);
     if best == 0 {
         return Reply::NoMore;
     }
-    pick_record(stream, name, qtype, here, moment, best, ordinal)
+    pick_record(stream, name, qtype, here, moment, best, ordinal, from)
 }

@@ -2,18 +2,16 @@
 ghost use mathlib.Core.Path.{_≡_};
 ghost use Rattle.rules.specs.Reading.{isClient, askReply};
 
-pub mod answer;
-pub mod level;
-pub mod locate;
-pub mod view;
+mod answer;
+mod locate;
 
 use answer::answer;
+use keys::is_wire;
 use locate::Judged;
 use locate::judge_and_locate;
 use rules::quantities::Moment;
 use rules::replies::AskFault;
 use rules::replies::Reply;
-use stream::names::is_wire;
 
 // Whether a client's address has 4 or 16 bytes.
 fn is_client(client: &[u8]) -> bool
@@ -46,8 +44,8 @@ pub fn ask(
     if !is_client(client) {
         return Reply::Refused(AskFault::Client);
     }
-    match judge_and_locate(records, client) {
+    match judge_and_locate(records, client, name) {
         Judged::Broken => Reply::Refused(AskFault::Records),
-        Judged::Whole(here) => answer(records, name, qtype, here, moment.0, ordinal),
+        Judged::Whole(here, from) => { answer(records, name, qtype, here, moment.0, ordinal, from) }
     }
 }

@@ -1,9 +1,13 @@
 // The pass that judges a stream and finds the client's location.
 ghost use mathlib.Core.Path.{_≡_};
+ghost use mathlib.Core.List.{map};
+ghost use Rattle.rules.specs.Lists.{lower};
 ghost use Rattle.rules.specs.Records.{loBytes};
 ghost use Rattle.rules.specs.Questions.{matches};
 ghost use Rattle.rules.specs.Reading.{recordIn, decode};
-ghost use Rattle.reader.specs.Locations.{bestSeen, betterIn, judgedLo, locatedIn};
+ghost use Rattle.reader.specs.Locations.{bestSeen, betterIn, judgedLo, locatedIn, fromIn};
+ghost use Rattle.reader.specs.Skips.{Skips, skipped};
+use level::is_related;
 use rules::quantities::Lo;
 use stream::head::span_at;
 use stream::record::Seen;
@@ -16,9 +20,9 @@ enum Located {
     Best { lo: Lo, least: usize },
 }
 
-// Whether a stream is whole records, and then the client's location.
+// Whether a stream is whole records, and then the client's location, and a place before which no record can answer.
 pub enum Judged {
-    Whole(Lo),
+    Whole(Lo, usize),
     Broken,
 }
 
@@ -60,13 +64,28 @@ fn better_in(client: &[u8], lo: Lo, least: usize, key: &[u8], rdata: &[u8]) -> L
     }
 }
 
+// Behind a record that can't answer for a name, as long as none that can has been met.
+fn behind(name: &[u8], key: &[u8], from: usize, at: usize, next: usize) -> usize
+    ensures { λ r. ⌜ r ≡ skipped (map lower (now (name .entry))) (now (key .entry)) from at next ⌝ }
+{
+    if from != at {
+        return from;
+    }
+    if is_related(name, key) {
+        return from;
+    }
+    next
+}
+
 // Every record is read, also behind the last location: a stream is judged whole before anything of it is answered.
-pub fn judge_and_locate(stream: &[u8], client: &[u8]) -> Judged
+pub fn judge_and_locate(stream: &[u8], client: &[u8], name: &[u8]) -> Judged
     ensures { λ r. ⌜ judgedLo r ≡ locatedIn (now (client .entry)) (decode (now (stream .entry))) ⌝ }
+    ensures { λ r. ⌜ Skips (map lower (now (name .entry))) (now (stream .entry)) (fromIn r) ⌝ }
 {
     let n = stream.len();
     let mut lo = Lo::Every;
     let mut least: usize = 0;
+    let mut from: usize = 0;
     let mut at: usize = 0;
     while at < n {
         let span = span_at(stream, at);
@@ -89,9 +108,10 @@ pub fn judge_and_locate(stream: &[u8], client: &[u8]) -> Judged
             } => {
                 lo = best;
                 least = most;
+                from = behind(name, &stream[start..middle], from, at, next);
                 at = next;
             }
         }
     }
-    Judged::Whole(lo)
+    Judged::Whole(lo, from)
 }

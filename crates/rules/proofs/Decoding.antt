@@ -61,7 +61,7 @@ lowered-lower : (n : List ℕ) → T (lowered (map lower n))
 unfolding lowered
 lowered-lower n = all-true _ (all-map lower n lower-lowered)
 
-labels-lower : (k : ℕ) (n : List ℕ) → T (labels k n) → T (labels k (map lower n))
+pub labels-lower : (k : ℕ) (n : List ℕ) → T (labels k n) → T (labels k (map lower n))
 unfolding labels
 labels-lower zero [] t = t
 labels-lower zero (zero ∷ []) t = unfold lower pick in tt
@@ -124,7 +124,7 @@ wild-split (x ∷ y ∷ o) t =
     let b : 42 ≡ y = search tests in
     cc
 
-wire-lower : (n : List ℕ) → Wire n → Wire (map lower n)
+pub wire-lower : (n : List ℕ) → Wire n → Wire (map lower n)
 unfolding isWire longestName
 wire-lower n t =
     let s : length n ≤ 255 = search tests in
@@ -186,7 +186,7 @@ lo-short (a ∷ []) h = omega arith
 lo-short (a ∷ b ∷ []) h = omega arith
 lo-short (a ∷ b ∷ c ∷ r) h = absurd h
 
-flag-length : (w : Bool) (lo : List ℕ) → length (flagAndLo w lo) ≡ suc (length lo)
+pub flag-length : (w : Bool) (lo : List ℕ) → length (flagAndLo w lo) ≡ suc (length lo)
 unfolding flagAndLo
 flag-length false [] = refl
 flag-length false (a ∷ lo) = refl

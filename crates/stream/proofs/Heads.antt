@@ -13,7 +13,7 @@ use lib.Seq.{drop-drop}
 use Rattle.rules.specs.Lists.{pick, fromLE}
 use Rattle.rules.specs.Records.{Record}
 use Rattle.rules.specs.Reading.{recordIn, ontoRecords, decodeOne, decodeFrom, decode}
-use Rattle.stream.proofs.Labels.{leb-is}
+use Rattle.keys.proofs.Labels.{leb-is}
 use Rattle.stream.specs.Heads.{keyLength, dataLength, sizeAt, fits, headOf, keyAt, dataAt, recordAt}
 use Rattle.stream.specs.declared.head.Head.the-variants.{Whole, Broken}
 
@@ -40,7 +40,7 @@ module _ (bytes : List ℕ) where
   unfolding fits
   fitted q = leb-true (sizeAt bytes) (length bytes) (both-right (leb 8 (length bytes)) (leb (sizeAt bytes) (length bytes)) q)
 
-  malformed : length bytes < 8 → recordAt bytes ≡ none
+  pub malformed : length bytes < 8 → recordAt bytes ≡ none
   unfolding recordAt fits pick
   malformed h = rw (lt-leb 8 (length bytes) h)
 

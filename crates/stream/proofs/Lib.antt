@@ -1,5 +1,5 @@
-pub mod Labels
 pub mod Heads
 pub mod Spans
 pub mod SeenRecords
 pub mod Meanings
+pub mod Shapes

@@ -1,24 +1,26 @@
 -- The answers by flag, type and key, against the rules of reading.
 use mathlib.Core.Path.{_≡_, refl, ap, _∙_, sym}
-use mathlib.Core.Bool.{Bool, true, false, _&&_}
+use mathlib.Core.Bool.{Bool, true, false, not, _&&_}
 use mathlib.Core.List.{List, [], _∷_}
-use mathlib.Core.Option.{none, some}
+use mathlib.Core.Option.{Option, none, some}
 use Prim.Native.Nat.{ℕ, zero, suc, _+_, _*_, _<_, _≤_}
 use native.Mathlib.Omega.{arith}
 use borrow.Author.Needs.{needs}
-use borrow.Author.Tests.{eq-eqb, ne-eqb, le-leb, lt-leb}
-use lib.Dec.{leb, ltb}
+use borrow.Author.Tests.{eq-eqb, ne-eqb, le-leb, lt-leb, eqb-true, leb-true, not-true, not-false}
+use lib.Dec.{T, eqb, leb, ltb}
 use lib.ListN.{length, take, drop, getD, length-drop}
 use lib.Seq.{drop-drop}
 use Rattle.rules.specs.declared.quantities.Lo.{Lo}
 use Rattle.rules.specs.Lists.{pick, fromBE}
 use Rattle.rules.specs.Fields.{largestTtl}
-use Rattle.rules.specs.Records.{location, resource, loBytes}
-use Rattle.rules.specs.Reading.{isLo, momentEnd, behindLo, withLo, byFlag, resourceIn, locationIn, recordIn}
+use Rattle.rules.specs.Records.{Record, location, resource, loBytes}
+use Rattle.rules.specs.Reading.{ordinaryKey, wildcardKey, isLo, momentEnd, behindLo, withLo, byFlag, resourceIn, locationIn, recordIn}
 use Rattle.rules.proofs.Tests.{pick-ok, tests}
+use Rattle.keys.specs.Keys.{goodKey}
 use Rattle.stream.specs.declared.record.Seen.{Seen}
+use Rattle.stream.specs.declared.record.Flag.{Flag}
 use Rattle.stream.specs.declared.record.Fields.{Fields}
-use Rattle.stream.specs.Seen.{ownerOf, goodKey, seenRecord, sharedIn, seenWith, plainIn, loIn, locatedIn, fixedIn}
+use Rattle.stream.specs.Seen.{ownerOf, seenRecord, sharedIn, seenWith, wildcardFlag, loIn, loFlag, flagBy, flagIn, fixedIn}
 
 -- ---- by the flag
 
@@ -35,54 +37,103 @@ module _ (key rdata : List ℕ) (w : Bool) (type : ℕ) where
       go true = refl
       go false = refl
 
-  when-good : (t : Bool) (s : Seen) → seenRecord key rdata (pick t s Seen.Broken) ≡ pick t (seenRecord key rdata s) none
-  unfolding seenRecord pick
-  when-good true s = refl
-  when-good false s = refl
+two-of : (rest : List ℕ) → isLo (take 2 rest) ≡ true → loBytes (loIn rest) ≡ take 2 rest
+unfolding loBytes loIn isLo
+two-of [] h = let z : _≡_ {A = ℕ} 0 1 = cc in absurd (omega arith)
+two-of (a ∷ []) h = let z : _≡_ {A = ℕ} 0 1 = cc in absurd (omega arith)
+two-of (a ∷ b ∷ rest) h = refl
 
-  plain-means : seenRecord key rdata (plainIn key rdata w type) ≡ pick (goodKey w key) (behindLo (ownerOf w key) type [] (drop 3 rdata)) none
-  unfolding plainIn
-  plain-means = when-good (goodKey w key) _ ∙ rw (behind Lo.Every 3) (unfold loBytes in refl)
+-- the record that flag and lo, and what is behind them, give
+onFlag : List ℕ → List ℕ → Bool → ℕ → Flag → Option Record
+onFlag key rdata w type Flag.Broken = none
+onFlag key rdata w type (Flag.Whole lo at) = behindLo (ownerOf w key) type (loBytes lo) (drop at rdata)
 
-  two-of : (rest : List ℕ) → isLo (take 2 rest) ≡ true → loBytes (loIn rest) ≡ take 2 rest
-  unfolding loBytes loIn isLo
-  two-of [] h = let z : _≡_ {A = ℕ} 0 1 = cc in absurd (omega arith)
-  two-of (a ∷ []) h = let z : _≡_ {A = ℕ} 0 1 = cc in absurd (omega arith)
-  two-of (a ∷ b ∷ rest) h = refl
+module _ (key rdata : List ℕ) (type : ℕ) where
+  lo-means : (w : Bool) → onFlag key rdata w type (loFlag rdata) ≡ withLo (ownerOf w key) type (drop 3 rdata)
+  unfolding withLo loFlag
+  lo-means w = go (isLo (take 2 (drop 3 rdata))) refl
+    where
+      go : (t : Bool) → isLo (take 2 (drop 3 rdata)) ≡ t
+          → onFlag key rdata w type (pick t (Flag.Whole (loIn (drop 3 rdata)) 5) Flag.Broken) ≡ pick t (behindLo (ownerOf w key) type (take 2 (drop 3 rdata)) (drop 2 (drop 3 rdata))) none
+      go true h = unfold pick onFlag in rw (two-of (drop 3 rdata) h, drop-drop 2 3 rdata)
+      go false h = unfold pick onFlag in refl
 
-  lo-means : (t : Bool) → isLo (take 2 (drop 3 rdata)) ≡ t
-      → pick t (behindLo (ownerOf w key) type (loBytes (loIn (drop 3 rdata))) (drop 5 rdata)) none ≡ pick t (behindLo (ownerOf w key) type (take 2 (drop 3 rdata)) (drop 2 (drop 3 rdata))) none
+  no-record : (b : Bool) → pick {A = Option Record} b none none ≡ none
   unfolding pick
-  lo-means true h = rw (two-of (drop 3 rdata) h, drop-drop 2 3 rdata)
-  lo-means false h = refl
+  no-record true = refl
+  no-record false = refl
 
-  located-means : seenRecord key rdata (locatedIn key rdata w type) ≡ pick (goodKey w key) (withLo (ownerOf w key) type (drop 3 rdata)) none
-  unfolding locatedIn withLo
-  located-means =
-      when-good (goodKey w key) _
-      ∙ rw (when-good (isLo (take 2 (drop 3 rdata))) (seenWith w type 17 (sharedIn (loIn (drop 3 rdata)) (drop 5 rdata))), behind (loIn (drop 3 rdata)) 5, lo-means (isLo (take 2 (drop 3 rdata))) refl)
+  -- the rules' reading by the flag: first the key, then lo, then the rest
+  flag-means : (flag : ℕ) → byFlag key type flag (drop 3 rdata) ≡ pick (goodKey (wildcardFlag flag) key) (onFlag key rdata (wildcardFlag flag) type (flagBy flag rdata)) none
+  flag-means flag = equal (eqb flag 61) refl
+    where
+      Goal : ℕ → Type 0
+      Goal flag = byFlag key type flag (drop 3 rdata) ≡ pick (goodKey (wildcardFlag flag) key) (onFlag key rdata (wildcardFlag flag) type (flagBy flag rdata)) none
 
-module _ (key rdata : List ℕ) (type : ℕ) (r : Seen) where
-  pub equals : getD rdata 2 0 ≡ 61 → r ≡ plainIn key rdata false type → seenRecord key rdata r ≡ byFlag key type (getD rdata 2 0) (drop 3 rdata)
-  unfolding byFlag
-  equals e q = rw (q, e) (plain-means key rdata false type ∙ unfold goodKey ownerOf pick in refl)
+      none-of : eqb flag 61 ≡ false → eqb flag 62 ≡ false → eqb flag 42 ≡ false → eqb flag 43 ≡ false → Goal flag
+      none-of a b c d = unfold byFlag wildcardFlag flagBy pick onFlag in rw (a, b, c, d) (sym (no-record (goodKey false key)))
 
-  pub greater : getD rdata 2 0 ≡ 62 → r ≡ locatedIn key rdata false type → seenRecord key rdata r ≡ byFlag key type (getD rdata 2 0) (drop 3 rdata)
-  unfolding byFlag
-  greater e q = rw (q, e) (located-means key rdata false type ∙ unfold goodKey ownerOf pick in refl)
+      plus : (t : Bool) → eqb flag 43 ≡ t → eqb flag 61 ≡ false → eqb flag 62 ≡ false → eqb flag 42 ≡ false → Goal flag
+      plus true q a b c = rw (eqb-true flag 43 q) (unfold byFlag wildcardFlag flagBy goodKey pick in ap (λ (o : Option Record). pick (wildcardKey key) o none) (unfold ownerOf pick in sym (lo-means true)))
+      plus false q a b c = none-of a b c q
 
-  pub star : getD rdata 2 0 ≡ 42 → r ≡ plainIn key rdata true type → seenRecord key rdata r ≡ byFlag key type (getD rdata 2 0) (drop 3 rdata)
-  unfolding byFlag
-  star e q = rw (q, e) (plain-means key rdata true type ∙ unfold goodKey ownerOf pick in refl)
+      star : (t : Bool) → eqb flag 42 ≡ t → eqb flag 61 ≡ false → eqb flag 62 ≡ false → Goal flag
+      star true q a b = rw (eqb-true flag 42 q) (unfold byFlag wildcardFlag flagBy goodKey pick onFlag ownerOf loBytes in refl)
+      star false q a b = plus (eqb flag 43) refl a b q
 
-  pub plus : getD rdata 2 0 ≡ 43 → r ≡ locatedIn key rdata true type → seenRecord key rdata r ≡ byFlag key type (getD rdata 2 0) (drop 3 rdata)
-  unfolding byFlag
-  plus e q = rw (q, e) (located-means key rdata true type ∙ unfold goodKey ownerOf pick in refl)
+      greater : (t : Bool) → eqb flag 62 ≡ t → eqb flag 61 ≡ false → Goal flag
+      greater true q a = rw (eqb-true flag 62 q) (unfold byFlag wildcardFlag flagBy goodKey pick in ap (λ (o : Option Record). pick (ordinaryKey key) o none) (unfold ownerOf pick in sym (lo-means false)))
+      greater false q a = star (eqb flag 42) refl a q
 
-pub no-flag : (key rdata : List ℕ) (type : ℕ) → (getD rdata 2 0 ≡ 61 → ⊥) → (getD rdata 2 0 ≡ 62 → ⊥) → (getD rdata 2 0 ≡ 42 → ⊥) → (getD rdata 2 0 ≡ 43 → ⊥)
-    → seenRecord key rdata Seen.Broken ≡ byFlag key type (getD rdata 2 0) (drop 3 rdata)
-unfolding byFlag seenRecord pick
-no-flag key rdata type a b c d = rw (ne-eqb _ _ a, ne-eqb _ _ b, ne-eqb _ _ c, ne-eqb _ _ d)
+      equal : (t : Bool) → eqb flag 61 ≡ t → Goal flag
+      equal true q = rw (eqb-true flag 61 q) (unfold byFlag wildcardFlag flagBy goodKey pick onFlag ownerOf loBytes in refl)
+      equal false q = greater (eqb flag 62) refl q
+
+  module _ (w : Bool) (ew : w ≡ wildcardFlag (getD rdata 2 0)) (t : Bool) (q : t ≡ goodKey w key) where
+    flagged : byFlag key type (getD rdata 2 0) (drop 3 rdata) ≡ pick t (onFlag key rdata w type (flagIn rdata)) none
+    unfolding flagIn
+    flagged = flag-means (getD rdata 2 0) ∙ rw (← ew, ← q)
+
+    pub key-bad : not t ≡ true → seenRecord key rdata Seen.Broken ≡ byFlag key type (getD rdata 2 0) (drop 3 rdata)
+    unfolding seenRecord pick
+    key-bad n = sym (flagged ∙ rw (not-true t n))
+
+    module _ (n : not t ≡ false) (f : Flag) (ef : f ≡ flagIn rdata) where
+      read-on : byFlag key type (getD rdata 2 0) (drop 3 rdata) ≡ onFlag key rdata w type f
+      unfolding pick
+      read-on = flagged ∙ rw (not-false t n, ← ef)
+
+      pub flag-bad : f ≡ Flag.Broken → seenRecord key rdata Seen.Broken ≡ byFlag key type (getD rdata 2 0) (drop 3 rdata)
+      unfolding seenRecord onFlag
+      flag-bad b = sym (read-on ∙ ap (onFlag key rdata w type) b)
+
+      pub flag-read : (lo : Lo) (at : ℕ) (r : Seen) → f ≡ Flag.Whole lo at → r ≡ seenWith w type (at + 12) (sharedIn lo (drop at rdata))
+          → seenRecord key rdata r ≡ byFlag key type (getD rdata 2 0) (drop 3 rdata)
+      unfolding onFlag
+      flag-read lo at r b e = ap (seenRecord key rdata) e ∙ behind key rdata w type lo at ∙ sym (read-on ∙ ap (onFlag key rdata w type) b)
+
+-- ttl begins within the data
+pub ttl-inside : (rdata : List ℕ) (f : Flag) (lo : Lo) (at : ℕ) → 3 ≤ length rdata → f ≡ flagIn rdata → f ≡ Flag.Whole lo at → at ≤ length rdata
+ttl-inside rdata f lo at l e b = go f e b
+  where
+    Within : Flag → Type 0
+    Within f = (lo : Lo) (at : ℕ) → f ≡ Flag.Whole lo at → at ≤ length rdata
+
+    two-there : (rest : List ℕ) → T (isLo (take 2 rest)) → 2 ≤ length rest
+    two-there [] t = unfold isLo in absurd t
+    two-there (a ∷ []) t = unfold isLo in absurd t
+    two-there (a ∷ b ∷ rest) t = omega arith
+
+    go : (f : Flag) → f ≡ flagIn rdata → f ≡ Flag.Whole lo at → at ≤ length rdata
+    go f e b = unfold flagIn flagBy loFlag in
+        pick-ok Within _
+        (λ t lo at q. let z : 3 ≡ at = cc in omega arith)
+        (λ t. pick-ok Within _
+        (λ t. pick-ok Within (isLo (take 2 (drop 3 rdata)))
+        (λ t lo at q. let z : 5 ≡ at = cc in omega (arith, two-there (drop 3 rdata) t, length-drop 3 rdata))
+        (λ t lo at q. let z : _≡_ {A = ℕ} 0 1 = cc in absurd (omega arith)))
+        (λ t lo at q. let z : _≡_ {A = ℕ} 0 1 = cc in absurd (omega arith)))
+        lo at (sym e ∙ b)
 
 -- the fixed fields are there
 module _ (key rdata : List ℕ) (w : Bool) (type : ℕ) where
@@ -93,19 +144,8 @@ module _ (key rdata : List ℕ) (w : Bool) (type : ℕ) where
       (λ t. let h : 12 ≤ length (drop at rdata) = search tests in omega (arith, length-drop at rdata))
       (λ t. omega arith)
 
-  good-fixed : (t : Bool) (s : Seen) → fixedIn s ≤ length rdata → fixedIn (pick t s Seen.Broken) ≤ length rdata
-  unfolding fixedIn pick
-  good-fixed true s h = h
-  good-fixed false s h = omega arith
-
-  pub plain-fixed : (r : Seen) → r ≡ plainIn key rdata w type → fixedIn r ≤ length rdata
-  unfolding plainIn
-  plain-fixed r e = rw e (good-fixed (goodKey w key) _ (behind-fixed Lo.Every 3))
-
-  pub located-fixed : (r : Seen) → r ≡ locatedIn key rdata w type → fixedIn r ≤ length rdata
-  unfolding locatedIn
-  located-fixed r e =
-      rw e (good-fixed (goodKey w key) _ (good-fixed (isLo (take 2 (drop 3 rdata))) _ (behind-fixed (loIn (drop 3 rdata)) 5)))
+  pub whole-fixed : (lo : Lo) (at : ℕ) (r : Seen) → r ≡ seenWith w type (at + 12) (sharedIn lo (drop at rdata)) → fixedIn r ≤ length rdata
+  whole-fixed lo at r e = rw e (behind-fixed lo at)
 
 pub no-fixed : (rdata : List ℕ) → fixedIn Seen.Broken ≤ length rdata
 unfolding fixedIn
@@ -115,7 +155,7 @@ pub location-fixed : (rdata : List ℕ) (lo : Lo) → fixedIn (Seen.Location lo)
 unfolding fixedIn
 location-fixed rdata lo = omega arith
 
-pub ruleset flag·laws = (needs, equals, greater, star, plus, no-flag, plain-fixed, located-fixed, no-fixed)
+pub ruleset by-flag·laws = (needs, ttl-inside, key-bad, flag-bad, flag-read, whole-fixed, no-fixed)
 
 -- ---- by the type
 
@@ -188,31 +228,50 @@ pub ruleset location·laws = (needs, no-mark, prefix-long, not-two, coded, not-c
 
 -- ---- by the key
 
+pub one-byte : (key : List ℕ) → length key < 2 → false ≡ (leb 2 (length key) && eqb (getD key 0 0) 0)
+one-byte key h = rw (lt-leb 2 (length key) h)
+
+pub two-bytes : (key : List ℕ) → 2 ≤ length key → eqb (getD key 0 0) 0 ≡ (leb 2 (length key) && eqb (getD key 0 0) 0)
+two-bytes key h = rw (le-leb 2 (length key) h)
+
+pub ruleset location-key·laws = (needs, one-byte, two-bytes)
+
 module _ (rdata : List ℕ) where
   pub no-key : (key : List ℕ) → length key ≡ 0 → seenRecord key rdata Seen.Broken ≡ recordIn key rdata
   unfolding seenRecord recordIn
   no-key [] h = refl
   no-key (b ∷ key) h = absurd (omega arith)
 
-  pub root-key : (key : List ℕ) (r : Seen) → length key ≡ 1 → seenRecord key rdata r ≡ resourceIn key rdata → seenRecord key rdata r ≡ recordIn key rdata
+  pub name-key : (key : List ℕ) (t : Bool) (r : Seen) → (length key ≡ 0 → ⊥) → t ≡ (leb 2 (length key) && eqb (getD key 0 0) 0) → t ≡ false
+      → seenRecord key rdata r ≡ resourceIn key rdata → seenRecord key rdata r ≡ recordIn key rdata
   unfolding recordIn
-  root-key [] r h e = absurd (omega arith)
-  root-key (zero ∷ []) r h e = e
-  root-key (suc b ∷ []) r h e = e
-  root-key (b ∷ c ∷ key) r h e = absurd (omega arith)
+  name-key [] t r h q y e = absurd (h refl)
+  name-key (zero ∷ []) t r h q y e = e
+  name-key (zero ∷ b ∷ key) t r h q y e =
+      let p : leb 2 (length (zero ∷ b ∷ key)) ≡ true = le-leb 2 (length (zero ∷ b ∷ key)) (omega arith) in
+      let z : _≡_ {A = Bool} true false = rw p at (sym q ∙ y) in
+      let y : _≡_ {A = ℕ} 0 1 = cc in
+      absurd (omega arith)
+  name-key (suc b ∷ key) t r h q y e = e
 
-  pub name-key : (key : List ℕ) (r : Seen) → (length key ≡ 0 → ⊥) → (getD key 0 0 ≡ 0 → ⊥) → seenRecord key rdata r ≡ resourceIn key rdata → seenRecord key rdata r ≡ recordIn key rdata
-  unfolding recordIn
-  name-key [] r h z e = absurd (h refl)
-  name-key (zero ∷ key) r h z e = absurd (z refl)
-  name-key (suc b ∷ key) r h z e = e
-
-  pub location-key : (key : List ℕ) (r : Seen) → (length key ≡ 0 → ⊥) → (length key ≡ 1 → ⊥) → getD key 0 0 ≡ 0
+  pub location-key : (key : List ℕ) (t : Bool) (r : Seen) → t ≡ (leb 2 (length key) && eqb (getD key 0 0) 0) → t ≡ true
       → seenRecord key rdata r ≡ locationIn (getD key 1 0) (drop 2 key) rdata → seenRecord key rdata r ≡ recordIn key rdata
   unfolding recordIn
-  location-key [] r h k z e = absurd (h refl)
-  location-key (b ∷ []) r h k z e = absurd (k refl)
-  location-key (zero ∷ b ∷ key) r h k z e = e
-  location-key (suc a ∷ b ∷ key) r h k z e = absurd (omega arith)
+  location-key [] t r q y e = let z : _≡_ {A = ℕ} 0 1 = cc in absurd (omega arith)
+  location-key (zero ∷ []) t r q y e = let z : _≡_ {A = ℕ} 0 1 = cc in absurd (omega arith)
+  location-key (suc b ∷ []) t r q y e = let z : _≡_ {A = ℕ} 0 1 = cc in absurd (omega arith)
+  location-key (zero ∷ b ∷ key) t r q y e = e
+  location-key (suc a ∷ b ∷ key) t r q y e =
+      let p : leb 2 (length (suc a ∷ b ∷ key)) ≡ true = le-leb 2 (length (suc a ∷ b ∷ key)) (omega arith) in
+      let z : _≡_ {A = Bool} false true = rw (p, ne-eqb (suc a) 0 (λ z. omega arith)) at (sym q ∙ y) in
+      let y : _≡_ {A = ℕ} 0 1 = cc in
+      absurd (omega arith)
 
-pub ruleset record·laws = (needs, no-key, root-key, name-key, location-key, no-fixed)
+  pub key-long : (key : List ℕ) (t : Bool) → t ≡ (leb 2 (length key) && eqb (getD key 0 0) 0) → t ≡ true → 2 ≤ length key
+  key-long key t q y = go (leb 2 (length key)) refl (sym q ∙ y)
+    where
+      go : (u : Bool) → leb 2 (length key) ≡ u → (u && eqb (getD key 0 0) 0) ≡ true → 2 ≤ length key
+      go true e h = leb-true 2 (length key) e
+      go false e h = let z : _≡_ {A = ℕ} 0 1 = cc in absurd (omega arith)
+
+pub ruleset record·laws = (needs, no-key, name-key, location-key, key-long, no-fixed)

@@ -2,50 +2,22 @@
 use mathlib.Core.Path.{_≡_, refl}
 use mathlib.Core.Bool.{Bool, true, false, not}
 use mathlib.Core.List.{List, [], _∷_}
-use Prim.Native.Nat.{ℕ, _-_, _<_, _≤_}
+use Prim.Native.Nat.{ℕ, _+_, _-_, _<_, _≤_}
 use native.Mathlib.Omega.{arith}
 use borrow.Author.Needs.{needs}
-use borrow.Author.Tests.{le-leb, lt-leb, lt-ltb, le-ltb, not-true, not-false}
+use borrow.Author.Tests.{ne-eqb, le-leb, lt-leb, lt-ltb, le-ltb, not-true, not-false}
 use lib.ListN.{length, take, drop, getD}
+use lib.Dec.{eqb}
 use Rattle.rules.specs.declared.quantities.Lo.{Lo}
 use Rattle.rules.specs.declared.quantities.Shared.{Shared}
 use Rattle.rules.specs.Lists.{pick, fromBE}
-use Rattle.rules.specs.Names.{isWire}
 use Rattle.rules.specs.Fields.{largestTtl}
-use Rattle.rules.specs.Bytes.{wild}
-use Rattle.rules.specs.Reading.{lowered, ordinaryKey, wildcardKey, isLo, momentEnd}
+use Rattle.rules.specs.Reading.{isLo, momentEnd}
 use Rattle.wire.proofs.Parts.{tail-lent}
 use Rattle.stream.specs.declared.record.Seen.{Seen}
+use Rattle.stream.specs.declared.record.Flag.{Flag}
 use Rattle.stream.specs.declared.record.Fields.{Fields}
-use Rattle.stream.specs.Seen.{goodKey, sharedIn, seenWith, plainIn, loIn, locatedIn}
-
--- ---- the key
-
-module _ (key : List ℕ) (t : Bool) (q : t ≡ isWire key) where
-  pub no-name : (w : Bool) → not t ≡ true → false ≡ goodKey w key
-  unfolding goodKey ordinaryKey wildcardKey pick
-  no-name true n = rw (← q, not-true t n)
-  no-name false n = rw (← q, not-true t n)
-
-  module _ (n : not t ≡ false) (u : Bool) (p : u ≡ lowered key) where
-    pub not-lowered : (w : Bool) → not u ≡ true → false ≡ goodKey w key
-    unfolding goodKey ordinaryKey wildcardKey pick
-    not-lowered true m = rw (← q, not-false t n, ← p, not-true u m)
-    not-lowered false m = rw (← q, not-false t n, ← p, not-true u m)
-
-    pub plain-key : (w v : Bool) → not u ≡ false → not w ≡ true → v ≡ wild key → not v ≡ goodKey w key
-    unfolding goodKey ordinaryKey pick
-    plain-key w v m e k = rw (not-true w e, ← q, not-false t n, ← p, not-false u m, k)
-
-    pub key-long : (w : Bool) → not u ≡ false → not w ≡ false → 253 < length key → false ≡ goodKey w key
-    unfolding goodKey wildcardKey pick
-    key-long w m e h = rw (not-false w e, ← q, not-false t n, ← p, not-false u m, lt-leb (length key) 253 h)
-
-    pub wild-key : (w : Bool) → not u ≡ false → not w ≡ false → length key ≤ 253 → true ≡ goodKey w key
-    unfolding goodKey wildcardKey pick
-    wild-key w m e h = rw (not-false w e, ← q, not-false t n, ← p, not-false u m, le-leb (length key) 253 h)
-
-pub ruleset key·laws = (needs, no-name, not-lowered, plain-key, key-long, wild-key)
+use Rattle.stream.specs.Seen.{sharedIn, seenWith, wildcardFlag, loIn, loFlag, flagBy, flagIn}
 
 -- ---- ttl and time
 
@@ -70,26 +42,22 @@ module _ (lo : Lo) (rest : List ℕ) where
 
 pub ruleset fields·laws = (needs, fields-short, ttl-beyond, time-beyond, fields-whole)
 
--- ---- records without and with lo
+-- ---- behind the flag
 
-module _ (key rdata : List ℕ) (w : Bool) (type : ℕ) (t : Bool) (q : t ≡ goodKey w key) where
-  pub plain-bad : not t ≡ true → Seen.Broken ≡ plainIn key rdata w type
-  unfolding plainIn pick
-  plain-bad n = rw (← q, not-true t n)
+module _ (rdata : List ℕ) (w : Bool) (type : ℕ) (lo : Lo) (at : ℕ) (f : Fields) (p : f ≡ sharedIn lo (take (length rdata - at) (drop at rdata))) where
+  pub fields-broken : f ≡ Fields.Broken → Seen.Broken ≡ seenWith w type (at + 12) (sharedIn lo (drop at rdata))
+  unfolding seenWith
+  fields-broken b = rw (← (tail-lent rdata at), ← p, b)
 
-  pub located-bad : not t ≡ true → Seen.Broken ≡ locatedIn key rdata w type
-  unfolding locatedIn pick
-  located-bad n = rw (← q, not-true t n)
+  pub fields-there : (shared : Shared) → f ≡ Fields.Whole shared → Seen.Resource w type shared (at + 12) ≡ seenWith w type (at + 12) (sharedIn lo (drop at rdata))
+  unfolding seenWith
+  fields-there shared b = rw (← (tail-lent rdata at), ← p, b)
 
-  module _ (n : not t ≡ false) (f : Fields) where
-    pub plain-broken : f ≡ sharedIn Lo.Every (take (length rdata - 3) (drop 3 rdata)) → f ≡ Fields.Broken → Seen.Broken ≡ plainIn key rdata w type
-    unfolding plainIn seenWith pick
-    plain-broken p b = rw (← q, not-false t n, ← (tail-lent rdata 3), ← p, b)
+pub ruleset behind·laws = (needs, fields-broken, fields-there)
 
-    pub plain-whole : (shared : Shared) → f ≡ sharedIn Lo.Every (take (length rdata - 3) (drop 3 rdata)) → f ≡ Fields.Whole shared → Seen.Resource w type shared 15 ≡ plainIn key rdata w type
-    unfolding plainIn seenWith pick
-    plain-whole shared p b = rw (← q, not-false t n, ← (tail-lent rdata 3), ← p, b)
+-- ---- lo behind the flag
 
+module _ (rdata : List ℕ) where
   short-lo : (rdata : List ℕ) → 3 ≤ length rdata → length rdata < 5 → isLo (take 2 (drop 3 rdata)) ≡ false
   unfolding isLo
   short-lo [] l h = absurd (omega arith)
@@ -99,9 +67,9 @@ module _ (key rdata : List ℕ) (w : Bool) (type : ℕ) (t : Bool) (q : t ≡ go
   short-lo (a ∷ b ∷ c ∷ d ∷ []) l h = refl
   short-lo (a ∷ b ∷ c ∷ d ∷ e ∷ r) l h = absurd (omega arith)
 
-  pub lo-short : not t ≡ false → 3 ≤ length rdata → length rdata < 5 → Seen.Broken ≡ locatedIn key rdata w type
-  unfolding locatedIn pick
-  lo-short n l h = rw (← q, not-false t n, short-lo rdata l h)
+  pub lo-short : 3 ≤ length rdata → length rdata < 5 → Flag.Broken ≡ loFlag rdata
+  unfolding loFlag pick
+  lo-short l h = rw (short-lo rdata l h)
 
   two : (rdata : List ℕ) → 5 ≤ length rdata → take 2 (drop 3 rdata) ≡ getD rdata 3 0 ∷ getD rdata 4 0 ∷ []
   two [] l = absurd (omega arith)
@@ -120,21 +88,48 @@ module _ (key rdata : List ℕ) (w : Bool) (type : ℕ) (t : Bool) (q : t ≡ go
   code (a ∷ b ∷ c ∷ d ∷ []) l = absurd (omega arith)
   code (a ∷ b ∷ c ∷ d ∷ e ∷ r) l = refl
 
-  module _ (n : not t ≡ false) (l : 5 ≤ length rdata) (v : Bool) (o : v ≡ isLo (getD rdata 3 0 ∷ getD rdata 4 0 ∷ [])) where
-    pub no-lo : not v ≡ true → Seen.Broken ≡ locatedIn key rdata w type
-    unfolding locatedIn pick
-    no-lo m = rw (← q, not-false t n, two rdata l, ← o, not-true v m)
+  module _ (l : 5 ≤ length rdata) (v : Bool) (o : v ≡ isLo (getD rdata 3 0 ∷ getD rdata 4 0 ∷ [])) where
+    pub no-lo : not v ≡ true → Flag.Broken ≡ loFlag rdata
+    unfolding loFlag pick
+    no-lo m = rw (two rdata l, ← o, not-true v m)
 
-    module _ (m : not v ≡ false) (f : Fields) where
-      pub located-broken : f ≡ sharedIn (Lo.Code (getD rdata 3 0) (getD rdata 4 0)) (take (length rdata - 5) (drop 5 rdata)) → f ≡ Fields.Broken → Seen.Broken ≡ locatedIn key rdata w type
-      unfolding locatedIn seenWith pick
-      located-broken p b = rw (← q, not-false t n, two rdata l, ← o, not-false v m, code rdata l, ← (tail-lent rdata 5), ← p, b)
+    pub lo-there : not v ≡ false → Flag.Whole (Lo.Code (getD rdata 3 0) (getD rdata 4 0)) 5 ≡ loFlag rdata
+    unfolding loFlag pick
+    lo-there m = rw (two rdata l, ← o, not-false v m, code rdata l)
 
-      pub located-whole : (shared : Shared) → f ≡ sharedIn (Lo.Code (getD rdata 3 0) (getD rdata 4 0)) (take (length rdata - 5) (drop 5 rdata)) → f ≡ Fields.Whole shared
-          → Seen.Resource w type shared 17 ≡ locatedIn key rdata w type
-      unfolding locatedIn seenWith pick
-      located-whole shared p b = rw (← q, not-false t n, two rdata l, ← o, not-false v m, code rdata l, ← (tail-lent rdata 5), ← p, b)
+pub ruleset lo·laws = (needs, lo-short, no-lo, lo-there)
 
-pub ruleset plain·laws = (needs, plain-bad, plain-broken, plain-whole)
+-- ---- the flag itself
 
-pub ruleset located·laws = (needs, located-bad, lo-short, no-lo, located-broken, located-whole)
+pub star-flag : (flag : ℕ) → flag ≡ 42 → true ≡ wildcardFlag flag
+unfolding wildcardFlag
+star-flag flag e = rw e
+
+pub plus-flag : (flag : ℕ) → (flag ≡ 42 → ⊥) → eqb flag 43 ≡ wildcardFlag flag
+unfolding wildcardFlag
+plus-flag flag n = rw (ne-eqb flag 42 n)
+
+pub ruleset wildcard·laws = (needs, star-flag, plus-flag)
+
+module _ (rdata : List ℕ) where
+  pub equals : getD rdata 2 0 ≡ 61 → Flag.Whole Lo.Every 3 ≡ flagIn rdata
+  unfolding flagIn flagBy pick
+  equals e = rw e
+
+  pub star : getD rdata 2 0 ≡ 42 → Flag.Whole Lo.Every 3 ≡ flagIn rdata
+  unfolding flagIn flagBy pick
+  star e = rw e
+
+  pub greater : (f : Flag) → getD rdata 2 0 ≡ 62 → f ≡ loFlag rdata → f ≡ flagIn rdata
+  unfolding flagIn flagBy pick
+  greater f e q = rw e q
+
+  pub plus : (f : Flag) → getD rdata 2 0 ≡ 43 → f ≡ loFlag rdata → f ≡ flagIn rdata
+  unfolding flagIn flagBy pick
+  plus f e q = rw e q
+
+  pub no-flag : (getD rdata 2 0 ≡ 61 → ⊥) → (getD rdata 2 0 ≡ 62 → ⊥) → (getD rdata 2 0 ≡ 42 → ⊥) → (getD rdata 2 0 ≡ 43 → ⊥) → Flag.Broken ≡ flagIn rdata
+  unfolding flagIn flagBy pick
+  no-flag a b c d = rw (ne-eqb _ _ a, ne-eqb _ _ b, ne-eqb _ _ c, ne-eqb _ _ d)
+
+pub ruleset flag·laws = (needs, equals, greater, star, plus, no-flag)

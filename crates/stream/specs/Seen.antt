@@ -1,24 +1,22 @@
 -- What the code answers of one record, and the record that it means.
 use Prim.Native.Nat.{ℕ}
-use mathlib.Core.Bool.{Bool, _&&_}
+use mathlib.Core.Bool.{Bool, _&&_, _||_}
 use mathlib.Core.List.{List, _∷_}
 use mathlib.Core.Option.{Option, none, some}
 use lib.ListN.{length, take, drop, getD}
-use lib.Dec.{leb, ltb}
+use lib.Dec.{leb, ltb, eqb}
 use Rattle.rules.specs.declared.quantities.Lo.{Lo}
 use Rattle.rules.specs.Lists.{pick, fromBE}
 use Rattle.rules.specs.Fields.{largestTtl}
 use Rattle.rules.specs.Records.{Record, location, resource, loBytes}
-use Rattle.rules.specs.Reading.{ordinaryKey, wildcardKey, isLo, momentEnd}
+use Rattle.rules.specs.Reading.{isLo, momentEnd}
 use Rattle.stream.specs.declared.record.Seen.{Seen}
+use Rattle.stream.specs.declared.record.Flag.{Flag}
 use Rattle.stream.specs.declared.record.Fields.{Fields}
 
 -- a wildcard's owner has the label `*` in front
 unfoldable pub ownerOf : Bool → List ℕ → List ℕ
 ownerOf wild key = pick wild (1 ∷ 42 ∷ key) key
-
-unfoldable pub goodKey : Bool → List ℕ → Bool
-goodKey wild key = pick wild (wildcardKey key) (ordinaryKey key)
 
 -- the record that is meant: the prefix of a location stands behind two bytes of its key
 unfoldable pub seenRecord : List ℕ → List ℕ → Seen → Option Record
@@ -44,14 +42,20 @@ unfoldable pub seenWith : Bool → ℕ → ℕ → Fields → Seen
 seenWith wild type fixed Fields.Broken = Seen.Broken
 seenWith wild type fixed (Fields.Whole shared) = Seen.Resource wild type shared fixed
 
--- a record without lo: behind type and flag, three bytes
-unfoldable pub plainIn : List ℕ → List ℕ → Bool → ℕ → Seen
-plainIn key rdata wild type = pick (goodKey wild key) (seenWith wild type 15 (sharedIn Lo.Every (drop 3 rdata))) Seen.Broken
+-- ---- by the flag, the third byte of the data
+
+unfoldable pub wildcardFlag : ℕ → Bool
+wildcardFlag flag = eqb flag 42 || eqb flag 43
 
 unfoldable pub loIn : List ℕ → Lo
 loIn rest = Lo.Code (getD rest 0 0) (getD rest 1 0)
 
--- and one with lo
-unfoldable pub locatedIn : List ℕ → List ℕ → Bool → ℕ → Seen
-locatedIn key rdata wild type =
-    pick (goodKey wild key) (pick (isLo (take 2 (drop 3 rdata))) (seenWith wild type 17 (sharedIn (loIn (drop 3 rdata)) (drop 5 rdata))) Seen.Broken) Seen.Broken
+-- lo stands behind the flag
+unfoldable pub loFlag : List ℕ → Flag
+loFlag rdata = pick (isLo (take 2 (drop 3 rdata))) (Flag.Whole (loIn (drop 3 rdata)) 5) Flag.Broken
+
+unfoldable pub flagBy : ℕ → List ℕ → Flag
+flagBy flag rdata = pick (eqb flag 61 || eqb flag 42) (Flag.Whole Lo.Every 3) (pick (eqb flag 62 || eqb flag 43) (loFlag rdata) Flag.Broken)
+
+unfoldable pub flagIn : List ℕ → Flag
+flagIn rdata = flagBy (getD rdata 2 0) rdata

@@ -1,4 +1,3 @@
 // One record of a stream of compiled records: where it ends, and what its key and data say.
 pub mod head;
-pub mod names;
 pub mod record;

@@ -1,13 +1,13 @@
-// What the key and the data of one record say.
+// What the key and the data of one record say. Each function has one caller, so that a stream is judged without calls.
 ghost use mathlib.Core.Path.{_≡_};
-ghost use Prim.Native.Nat.{_≤_};
+ghost use mathlib.Core.Bool.{_&&_};
+ghost use Prim.Native.Nat.{_≤_, _+_};
 ghost use lib.ListN.{length, drop, getD};
+ghost use lib.Dec.{leb, eqb};
 ghost use Rattle.rules.specs.Reading.{byFlag, resourceIn, locationIn, recordIn};
-ghost use Rattle.stream.specs.Seen.{goodKey, sharedIn, plainIn, locatedIn, seenRecord, fixedIn};
-use crate::names::is_lo;
-use crate::names::is_lowered;
-use crate::names::is_wild;
-use crate::names::is_wire;
+ghost use Rattle.stream.specs.Seen.{wildcardFlag, loFlag, flagIn, sharedIn, seenWith, seenRecord, fixedIn};
+use keys::is_good_key;
+use keys::is_lo;
 use rules::quantities::Lo;
 use rules::quantities::Moment;
 use rules::quantities::Shared;
@@ -27,29 +27,54 @@ pub enum Seen {
     },
 }
 
+// What the flag says of lo, and where ttl begins in the data; or that flag or lo are out of range.
+enum Flag {
+    Whole(Lo, usize),
+    Broken,
+}
+
 // Ttl, time and lo, or that they are out of range.
 enum Fields {
     Whole(Shared),
     Broken,
 }
 
-// Whether a key is a name that a record, or a wildcard record, can have.
-fn is_good_key(key: &[u8], wild: bool) -> bool
-    ensures { λ r. ⌜ r ≡ goodKey wild (now (key .entry)) ⌝ }
+// Whether a flag is that of a wildcard, `*` or `+`.
+fn is_wildcard(flag: u8) -> bool
+    ensures { λ r. ⌜ r ≡ wildcardFlag flag ⌝ }
 {
-    if !is_wire(key) {
-        return false;
+    if flag == 42 {
+        return true;
     }
-    if !is_lowered(key) {
-        return false;
+    flag == 43
+}
+
+// The lo behind the flag.
+fn lo_in(rdata: &[u8]) -> Flag
+    requires { ⌜ 3 ≤ length (now rdata) ⌝ }
+    ensures { λ r. ⌜ r ≡ loFlag (now (rdata .entry)) ⌝ }
+{
+    if rdata.len() < 5 {
+        return Flag::Broken;
     }
-    if !wild {
-        return !is_wild(key);
+    if !is_lo(rdata[3], rdata[4]) {
+        return Flag::Broken;
     }
-    if 253 < key.len() {
-        return false;
+    Flag::Whole(Lo::Code(rdata[3], rdata[4]), 5)
+}
+
+// By the flag: `=` and `*` have no lo, `>` and `+` have one.
+fn flag_in(rdata: &[u8]) -> Flag
+    requires { ⌜ 3 ≤ length (now rdata) ⌝ }
+    ensures { λ r. ⌜ r ≡ flagIn (now (rdata .entry)) ⌝ }
+{
+    match rdata[2] {
+        61 => Flag::Whole(Lo::Every, 3),
+        62 => lo_in(rdata),
+        42 => Flag::Whole(Lo::Every, 3),
+        43 => lo_in(rdata),
+        _ => Flag::Broken,
     }
-    true
 }
 
 // Ttl and time, behind the flag and lo.
@@ -74,62 +99,35 @@ fn shared_in(lo: Lo, rest: &[u8]) -> Fields
     })
 }
 
-// A record without lo.
-fn plain_in(key: &[u8], rdata: &[u8], wild: bool, rtype: u16) -> Seen
-    requires { ⌜ 3 ≤ length (now rdata) ⌝ }
-    ensures { λ r. ⌜ r ≡ plainIn (now (key .entry)) (now (rdata .entry)) wild rtype ⌝ }
+// The record whose ttl begins at a place of its data.
+fn fields_in(rdata: &[u8], lo: Lo, at: usize, wild: bool, rtype: u16) -> Seen
+    requires { ⌜ at ≤ length (now rdata) ⌝ }
+    ensures { λ r. ⌜ r ≡ seenWith wild rtype (at + 12) (sharedIn lo (drop at (now (rdata .entry)))) ⌝ }
 {
-    if !is_good_key(key, wild) {
-        return Seen::Broken;
-    }
-    match shared_in(Lo::Every, &rdata[3..]) {
+    match shared_in(lo, &rdata[at..]) {
         Fields::Whole(shared) => Seen::Resource {
             wild,
             rtype,
             shared,
-            fixed: 15,
+            fixed: at + 12,
         },
         Fields::Broken => Seen::Broken,
     }
 }
 
-// A record with lo.
-fn located_in(key: &[u8], rdata: &[u8], wild: bool, rtype: u16) -> Seen
-    requires { ⌜ 3 ≤ length (now rdata) ⌝ }
-    ensures { λ r. ⌜ r ≡ locatedIn (now (key .entry)) (now (rdata .entry)) wild rtype ⌝ }
-{
-    if !is_good_key(key, wild) {
-        return Seen::Broken;
-    }
-    if rdata.len() < 5 {
-        return Seen::Broken;
-    }
-    if !is_lo(rdata[3], rdata[4]) {
-        return Seen::Broken;
-    }
-    match shared_in(Lo::Code(rdata[3], rdata[4]), &rdata[5..]) {
-        Fields::Whole(shared) => Seen::Resource {
-            wild,
-            rtype,
-            shared,
-            fixed: 17,
-        },
-        Fields::Broken => Seen::Broken,
-    }
-}
-
-// By the flag: `=` and `>` are ordinary, `*` and `+` wildcards; `>` and `+` have a lo.
+// A record of this type: whether it is a wildcard goes by the flag, and what its key may be by that.
 fn by_flag(key: &[u8], rdata: &[u8], rtype: u16) -> Seen
     requires { ⌜ 3 ≤ length (now rdata) ⌝ }
     ensures { λ r. ⌜ seenRecord (now (key .entry)) (now (rdata .entry)) r ≡ byFlag (now (key .entry)) rtype (getD (now (rdata .entry)) 2 0) (drop 3 (now (rdata .entry))) ⌝ }
     ensures { λ r. ⌜ fixedIn r ≤ length (now (rdata .entry)) ⌝ }
 {
-    match rdata[2] {
-        61 => plain_in(key, rdata, false, rtype),
-        62 => located_in(key, rdata, false, rtype),
-        42 => plain_in(key, rdata, true, rtype),
-        43 => located_in(key, rdata, true, rtype),
-        _ => Seen::Broken,
+    let wild = is_wildcard(rdata[2]);
+    if !is_good_key(key, wild) {
+        return Seen::Broken;
+    }
+    match flag_in(rdata) {
+        Flag::Whole(lo, at) => fields_in(rdata, lo, at, wild, rtype),
+        Flag::Broken => Seen::Broken,
     }
 }
 
@@ -168,20 +166,26 @@ fn location_in(key: &[u8], rdata: &[u8]) -> Seen
     }
 }
 
+// Whether a key is a location's: it starts with 0 and has two bytes or more.
+fn is_location(key: &[u8]) -> bool
+    ensures { λ r. ⌜ r ≡ (leb 2 (length (now (key .entry))) && eqb (getD (now (key .entry)) 0 0) 0) ⌝ }
+{
+    if key.len() < 2 {
+        return false;
+    }
+    key[0] == 0
+}
+
 // The record of a key and its data, or that they are none.
 pub fn record_in(key: &[u8], rdata: &[u8]) -> Seen
     ensures { λ r. ⌜ seenRecord (now (key .entry)) (now (rdata .entry)) r ≡ recordIn (now (key .entry)) (now (rdata .entry)) ⌝ }
     ensures { λ r. ⌜ fixedIn r ≤ length (now (rdata .entry)) ⌝ }
 {
-    let n = key.len();
-    if n == 0 {
+    if key.len() == 0 {
         return Seen::Broken;
     }
-    if n == 1 {
-        return resource_in(key, rdata);
+    if is_location(key) {
+        return location_in(key, rdata);
     }
-    if key[0] != 0 {
-        return resource_in(key, rdata);
-    }
-    location_in(key, rdata)
+    resource_in(key, rdata)
 }

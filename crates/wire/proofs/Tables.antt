@@ -6,6 +6,8 @@ use Prim.Native.Nat.{ℕ, zero, suc, _+_, _<_}
 use native.Mathlib.Nat.{add-zero, zero-add, add-suc, suc-add, le-of-suc-le-suc, not-suc-le-zero}
 use lib.Dec.{T, eqb, eqb→eq}
 use lib.ListN.{length, getD}
+use Rattle.rules.specs.Lists.{lower}
+use Rattle.wire.specs.Letters.{Lowers}
 
 abbrev pub both : Bool → Bool → Bool
 both true b = b
@@ -37,3 +39,10 @@ at f xs t k h = subst (λ (m : ℕ). T (f m (getD xs k 0))) (zero-add k) (from f
 -- the table is g at each place: one computed test. At a need the table and the place are found from the goal: `is g _ tt _ (search needs)`
 pub is : (g : ℕ → ℕ) (xs : List ℕ) → T (every (λ k x. eqb x (g k)) 0 xs) → (k : ℕ) → k < length xs → getD xs k 0 ≡ g k
 is g xs t k h = eqb→eq (getD xs k 0) (g k) (at (λ k x. eqb x (g k)) xs t k h)
+
+-- a table that lowers letters: one computed test shows each entry
+pub lowers : (xs : List ℕ) → T (every (λ k x. eqb x (lower k)) 0 xs) → length xs ≡ 256 → Lowers xs
+lowers xs t h = record { count = h; entry = λ b k. is lower xs t b (rw h k) }
+
+pub lowers-at : (xs : List ℕ) (b : ℕ) → Lowers xs → b < 256 → getD xs b 0 ≡ lower b
+lowers-at xs b l h = l .entry b h

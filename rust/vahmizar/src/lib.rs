@@ -43,3 +43,8 @@ pub use compiling::{check, compile, compile_to_vec, LONGEST_SOURCE};
 pub use moment::Moment;
 pub use records::{Answer, Answers, Question, Records, ALL_TYPES};
 pub use refusal::{AskRefusal, Fault, Refusal};
+
+/// The program of README.md, run as a test.
+#[cfg(doctest)]
+#[doc = include_str!("../../../README.md")]
+struct Readme;

@@ -1,3 +1,6 @@
+use mathlib.Core.List.{map}
+use Rattle.rules.specs.Lists.{lower}
+use Rattle.reader.specs.Skips.{Skips}
 use Prim.Native.Nat.{_-_, _≤_}
 use mathlib.Core.Path.{_≡_}
 use lib.ListN.{length, drop}
@@ -9,10 +12,10 @@ use Rattle.reader.proofs.locate.judge_and_locate.Statement.{statement}
 use Rattle.reader.proofs.locate.judge_and_locate.Tie as tie
 
 abbrev Inv-loop : tie.InvT-loop
-Inv-loop stream client n lo₀ least₀ at₀ lo least at = (at ≤ length stream) × (locatedFrom client (record { lo = loBytes lo; atLeast = least }) (decode (drop at stream)) ≡ locatedIn client (decode stream))
+Inv-loop stream client name n lo₀ least₀ from₀ at₀ lo least from at = (at ≤ length stream) × (locatedFrom client (record { lo = loBytes lo; atLeast = least }) (decode (drop at stream)) ≡ locatedIn client (decode stream)) × Skips (map lower name) stream from
 
 abbrev μ-loop : tie.MeasureT-loop
-μ-loop stream client n lo₀ least₀ at₀ lo least at = length stream - at
+μ-loop stream client name n lo₀ least₀ from₀ at₀ lo least from at = length stream - at
 
 loop-holds : tie.Need-loop-holds Inv-loop μ-loop
 loop-holds c = search locate·laws
@@ -50,6 +53,18 @@ returns c = search locate·laws
 enum-known-best : tie.Need-enum-known-best Inv-loop μ-loop
 enum-known-best c = search locate·laws
 
+sub-behind : tie.Need-sub-behind Inv-loop μ-loop
+sub-behind c = search locate·laws
+
+part-behind-start : tie.Need-part-behind-start Inv-loop μ-loop
+part-behind-start c = search locate·laws
+
+part-behind-end : tie.Need-part-behind-end Inv-loop μ-loop
+part-behind-end c = search locate·laws
+
+behind-requires : tie.Need-behind-requires Inv-loop μ-loop
+behind-requires c κs = search locate·laws
+
 loop-less : tie.Need-loop-less Inv-loop μ-loop
 loop-less c = search locate·laws
 
@@ -77,6 +92,10 @@ judge-and-locate-spec =
     enum-told
     returns
     enum-known-best
+    sub-behind
+    part-behind-start
+    part-behind-end
+    behind-requires
     loop-less
     loop-again
     returns-2)

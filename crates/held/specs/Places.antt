@@ -1,0 +1,24 @@
+-- The record at a place of a stream, and the records from a place on.
+use Prim.Native.Nat.{ℕ, zero, suc, _+_}
+use mathlib.Core.Bool.{true, false}
+use mathlib.Core.List.{List}
+use lib.ListN.{drop}
+use Rattle.rules.specs.Lists.{pick, isSome}
+use Rattle.stream.specs.Heads.{keyLength, sizeAt, recordAt}
+use Rattle.held.specs.declared.place.Found.{Found}
+
+-- nothing whole is there
+unfoldable pub nothingAt : ℕ → Found
+nothingAt at = record { whole = false; key = at; rdata = at; next = at }
+
+-- the key behind the two lengths, the data behind the key, the next record behind the data
+unfoldable pub placesAt : List ℕ → ℕ → Found
+placesAt bytes at = record { whole = true; key = at + 8; rdata = at + 8 + keyLength (drop at bytes); next = at + sizeAt (drop at bytes) }
+
+unfoldable pub foundAt : List ℕ → ℕ → Found
+foundAt bytes at = pick (isSome (recordAt (drop at bytes))) (placesAt bytes at) (nothingAt at)
+
+-- the record behind so many others; what isn't whole is never passed
+unfoldable pub foundFrom : ℕ → List ℕ → ℕ → Found
+foundFrom zero bytes at = foundAt bytes at
+foundFrom (suc count) bytes at = foundFrom count bytes (foundAt bytes at .next)

@@ -1,0 +1,22 @@
+use Rattle.keys.proofs.Labels.{lo·laws}
+use Rattle.keys.proofs.is_lo.Statement.{statement}
+use Rattle.keys.proofs.is_lo.Tie as tie
+
+is-letter-requires : tie.Need-is-letter-requires
+is-letter-requires c κs = search lo·laws
+
+returns : tie.Need-returns
+returns c = search lo·laws
+
+returns-2 : tie.Need-returns-2
+returns-2 c = search lo·laws
+
+is-letter-requires-2 : tie.Need-is-letter-requires-2
+is-letter-requires-2 c κs = search lo·laws
+
+returns-3 : tie.Need-returns-3
+returns-3 c = search lo·laws
+
+pub is-lo-spec : {M : Type 1} → statement M
+is-lo-spec =
+    tie.close (tie.spec is-letter-requires returns returns-2 is-letter-requires-2 returns-3)

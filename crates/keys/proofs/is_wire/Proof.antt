@@ -1,0 +1,68 @@
+use Prim.Native.Nat.{_-_, _≤_}
+use mathlib.Core.Path.{_≡_}
+use lib.ListN.{length, drop}
+use Rattle.rules.specs.Names.{labels, isWire}
+use Rattle.keys.proofs.Labels.{wire·laws}
+use Rattle.keys.proofs.is_wire.Statement.{statement}
+use Rattle.keys.proofs.is_wire.Tie as tie
+
+abbrev Inv-loop : tie.InvT-loop
+Inv-loop name n i₀ i = (length name ≤ 255) × (labels 0 (drop i name) ≡ isWire name)
+
+abbrev μ-loop : tie.MeasureT-loop
+μ-loop name n i₀ i = length name - i
+
+returns : tie.Need-returns Inv-loop μ-loop
+returns c = search wire·laws
+
+loop-holds : tie.Need-loop-holds Inv-loop μ-loop
+loop-holds c = search wire·laws
+
+shared-slice-read-wide : tie.Need-shared-slice-read-wide Inv-loop μ-loop
+shared-slice-read-wide c = search wire·laws
+
+wide-requires : tie.Need-wide-requires Inv-loop μ-loop
+wide-requires c κs = search wire·laws
+
+add-result : tie.Need-add-result Inv-loop μ-loop
+add-result c = search wire·laws
+
+returns-2 : tie.Need-returns-2 Inv-loop μ-loop
+returns-2 c = search wire·laws
+
+returns-3 : tie.Need-returns-3 Inv-loop μ-loop
+returns-3 c = search wire·laws
+
+add-i : tie.Need-add-i Inv-loop μ-loop
+add-i c = search wire·laws
+
+add-i-2 : tie.Need-add-i-2 Inv-loop μ-loop
+add-i-2 c = search wire·laws
+
+loop-less : tie.Need-loop-less Inv-loop μ-loop
+loop-less c = search wire·laws
+
+loop-again : tie.Need-loop-again Inv-loop μ-loop
+loop-again c = search wire·laws
+
+returns-4 : tie.Need-returns-4 Inv-loop μ-loop
+returns-4 c = search wire·laws
+
+pub is-wire-spec : {M : Type 1} → statement M
+is-wire-spec =
+    tie.close
+    (tie.spec
+    Inv-loop
+    μ-loop
+    returns
+    loop-holds
+    shared-slice-read-wide
+    wide-requires
+    add-result
+    returns-2
+    returns-3
+    add-i
+    add-i-2
+    loop-less
+    loop-again
+    returns-4)

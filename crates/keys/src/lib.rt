@@ -1,0 +1,122 @@
+// Names on the wire, as keys and questions have them, and lo.
+ghost use mathlib.Core.Path.{_≡_};
+ghost use mathlib.Core.Bool.{_&&_};
+ghost use mathlib.Core.List.{[], _∷_};
+ghost use lib.Dec.{leb};
+ghost use Rattle.rules.specs.Names.{isWire};
+ghost use Rattle.rules.specs.Fields.{letter};
+ghost use Rattle.rules.specs.Bytes.{wild};
+ghost use Rattle.rules.specs.Reading.{lowered, isLo};
+ghost use Rattle.keys.specs.Keys.{goodKey};
+use wire::get::wide;
+
+// Whether bytes are a name on the wire. It goes from label to label.
+pub fn is_wire(name: &[u8]) -> bool
+    ensures { λ r. ⌜ r ≡ isWire (now (name .entry)) ⌝ }
+{
+    let n = name.len();
+    if 255 < n {
+        return false;
+    }
+    let mut i: usize = 0;
+    while i < n {
+        let label = wide(name[i]);
+        if label == 0 {
+            return i + 1 == n;
+        }
+        if 63 < label {
+            return false;
+        }
+        i = i + 1 + label as usize;
+    }
+    false
+}
+
+// Whether a byte is one of A to Z.
+fn is_upper(b: u8) -> bool
+    ensures { λ r. ⌜ r ≡ (leb 65 b && leb b 90) ⌝ }
+{
+    if b < 65 {
+        return false;
+    }
+    b < 91
+}
+
+// Whether bytes are free of A to Z. It doesn't stop at the first: without a way out the loop takes many bytes at a time.
+fn is_lowered(key: &[u8]) -> bool
+    ensures { λ r. ⌜ r ≡ lowered (now (key .entry)) ⌝ }
+{
+    let n = key.len();
+    let mut free = true;
+    let mut i: usize = 0;
+    while i < n {
+        if is_upper(key[i]) {
+            free = false;
+            i += 1;
+        } else {
+            i += 1;
+        }
+    }
+    free
+}
+
+// Whether the first label of a name is just `*`.
+fn is_wild(key: &[u8]) -> bool
+    ensures { λ r. ⌜ r ≡ wild (now (key .entry)) ⌝ }
+{
+    if key.len() < 2 {
+        return false;
+    }
+    if key[0] != 1 {
+        return false;
+    }
+    key[1] == 42
+}
+
+// Whether a key is a name that a record, or a wildcard record, can have.
+pub fn is_good_key(key: &[u8], wild: bool) -> bool
+    ensures { λ r. ⌜ r ≡ goodKey wild (now (key .entry)) ⌝ }
+{
+    if !is_wire(key) {
+        return false;
+    }
+    if !is_lowered(key) {
+        return false;
+    }
+    if !wild {
+        return !is_wild(key);
+    }
+    if 253 < key.len() {
+        return false;
+    }
+    true
+}
+
+// Whether a byte is an ASCII letter.
+fn is_letter(b: u8) -> bool
+    ensures { λ r. ⌜ r ≡ letter b ⌝ }
+{
+    if b < 65 {
+        return false;
+    }
+    if b < 91 {
+        return true;
+    }
+    if b < 97 {
+        return false;
+    }
+    b < 123
+}
+
+// Whether two bytes are a lo: a letter, and a letter or 0.
+pub fn is_lo(a: u8, b: u8) -> bool
+    ensures { λ r. ⌜ r ≡ isLo (a ∷ b ∷ []) ⌝ }
+{
+    if !is_letter(a) {
+        return false;
+    }
+    if b == 0 {
+        return true;
+    }
+    is_letter(b)
+}

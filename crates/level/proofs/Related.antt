@@ -1,0 +1,75 @@
+-- A key that can answer for a name is what the name ends in.
+use mathlib.Core.Path.{_≡_, refl, _∙_, sym}
+use mathlib.Core.Bool.{Bool, true, false, not, _||_}
+use mathlib.Core.List.{List, [], _∷_, map}
+use Prim.Native.Nat.{ℕ, zero, suc, _-_, _<_, _≤_}
+use native.Mathlib.Omega.{arith}
+use borrow.Author.Needs.{needs}
+use borrow.Author.Tests.{not-true, not-false}
+use lib.ListN.{length, take, drop, length-map, length-drop}
+use lib.Dec.{T}
+use Rattle.rules.specs.Lists.{lower, sameBytes}
+use Rattle.rules.specs.Questions.{ancestorsFrom, ancestors}
+use Rattle.rules.proofs.Lists.{same-length}
+use Rattle.wire.proofs.Parts.{tail-lent}
+use Rattle.wire.proofs.Compare.{other-length-lowered}
+use Rattle.level.specs.Ranks.{among}
+use Rattle.level.proofs.Ranking.{drop-map, too-long}
+
+-- ---- the end of a name
+
+module _ (n key : List ℕ) where
+  whole-name : T (sameBytes key n) → T (sameBytes key (drop (length n - length key) n))
+  whole-name t =
+      let l : length n - length key ≡ 0 = omega (arith, same-length key n t) in
+      rw l t
+
+  one-more : (b : ℕ) → T (sameBytes key (drop (length n - length key) n)) → T (sameBytes key (drop (suc (length n) - length key) (b ∷ n)))
+  one-more b t =
+      let q : suc (length n) - length key ≡ suc (length n - length key) = omega (arith, same-length key (drop (length n - length key) n) t, length-drop (length n - length key) n) in
+      rw q t
+
+  either : (a b : Bool) → T (a || b) → (T a → T (sameBytes key (drop (length n - length key) n))) → (T b → T (sameBytes key (drop (length n - length key) n))) → T (sameBytes key (drop (length n - length key) n))
+  either true b t f g = f tt
+  either false b t f g = g t
+
+ends-in : (k : ℕ) (n key : List ℕ) → T (among key (ancestorsFrom k n)) → T (sameBytes key (drop (length n - length key) n))
+unfolding among ancestorsFrom
+ends-in zero [] key t = absurd t
+ends-in zero (zero ∷ n) key t = absurd t
+ends-in zero (suc k ∷ n) key t = one-more n key (suc k) (ends-in (suc k) n key t)
+ends-in (suc k) [] key t = absurd t
+ends-in (suc zero) (b ∷ n) key t = one-more n key b (either n key (sameBytes key n) (among key (ancestorsFrom zero n)) t (whole-name n key) (ends-in zero n key))
+ends-in (suc (suc k)) (b ∷ n) key t = one-more n key b (ends-in (suc k) n key t)
+
+-- ---- the code's tests
+
+module _ (name key : List ℕ) where
+  pub longer : length name < length key → false ≡ (sameBytes key (map lower name) || among key (ancestors (map lower name)))
+  longer h = rw (← (other-length-lowered key name (λ e. omega arith)), ← (too-long name key (omega arith)))
+
+  module _ (h : length key ≤ length name) (t : Bool) (q : t ≡ sameBytes key (map lower (take (length name - (length name - length key)) (drop (length name - length key) name)))) where
+    tail : sameBytes key (drop (length (map lower name) - length key) (map lower name)) ≡ t
+    tail = sym (q ∙ rw (tail-lent name (length name - length key), ← (drop-map lower (length name - length key) name), length-map name lower))
+
+    contradicts : not t ≡ true → T (sameBytes key (drop (length (map lower name) - length key) (map lower name))) → ⊥
+    contradicts n u = rw (tail, not-true t n) at u
+
+    pub other-end : not t ≡ true → false ≡ (sameBytes key (map lower name) || among key (ancestors (map lower name)))
+    other-end n = go (sameBytes key (map lower name)) (among key (ancestors (map lower name))) refl refl
+      where
+        go : (a b : Bool) → sameBytes key (map lower name) ≡ a → among key (ancestors (map lower name)) ≡ b → false ≡ (a || b)
+        go false false p r = refl
+        go true b p r = absurd (contradicts n (whole-name (map lower name) key (rw p tt)))
+        go false true p r = absurd (contradicts n (ends-in 0 (map lower name) key (unfold ancestors in rw r tt)))
+
+    pub same-end : not t ≡ false → length name - length key ≡ 0 → true ≡ (sameBytes key (map lower name) || among key (ancestors (map lower name)))
+    same-end n z =
+        let l : length (map lower name) - length key ≡ 0 = omega (arith, length-map name lower) in
+        let s : sameBytes key (map lower name) ≡ true = rw l at (tail ∙ not-false t n) in
+        rw s
+
+  pub shorter-end : (u : Bool) → length key ≤ length name → (length name - length key ≡ 0 → ⊥) → u ≡ among key (ancestors (map lower name)) → u ≡ (sameBytes key (map lower name) || among key (ancestors (map lower name)))
+  shorter-end u h z e = rw (← (other-length-lowered key name (λ e. z (omega arith))), ← e)
+
+pub ruleset related·laws = (needs, longer, other-end, same-end, shorter-end)

@@ -1,0 +1,142 @@
+-- The demands over the calls.
+use mathlib.Core.Path.{_≡_, refl, sym, ap, _∙_, subst}
+use mathlib.Core.Bool.{Bool, true, false, not}
+use mathlib.Core.List.{List}
+use Prim.Native.Nat.{ℕ, _≤_}
+use native.Mathlib.Omega.{arith}
+use borrow.Author.Needs.{needs}
+use borrow.Author.Tests.{eq-eqb, not-true, not-false}
+use lib.ListN.{length, take, getElem?}
+use lib.Dec.{T, eqb}
+use Rattle.rules.specs.declared.faults.Answer.{Answer}
+use Rattle.rules.specs.declared.faults.Fault.{Fault}
+use Rattle.rules.specs.declared.faults.FieldKind.{FieldKind}
+use Rattle.rules.specs.declared.replies.Reply.{Reply}
+use Rattle.rules.specs.Lists.{pick}
+use Rattle.rules.specs.Answers.{faultNumber, numbersOf, isDone, answer, compileAnswer, compileOutput}
+use Rattle.rules.specs.Questions.{Question}
+use Rattle.rules.specs.Reading.{replyNumber, askReply}
+use Rattle.rules.specs.Demands.{Accepted, needed, CompilingRefusesExactly, compiledBytes, CompilingKeepsTheMeaning}
+use Rattle.rules.proofs.Refusals.{refuses-exactly}
+use Rattle.rules.proofs.Meaning.{keeps-the-meaning}
+use Rattle.wire.proofs.Parts.{front-count}
+use Rattle.compiler.specs.Compiled.{IsCompiled}
+use Rattle.vahmizar.specs.declared.both.Outcome.{Outcome}
+use Rattle.vahmizar.specs.Promises.{laid, Compiles, Asks, Answered, TheCallRefusesExactly, Askable, Tells, Told, TheCallsKeepTheMeaning, Serves}
+
+false-true : false ≡ true → ⊥
+false-true e = subst (λ (b : Bool). T (not b)) e tt
+
+-- past the check of the answer's length
+past {ℓ} : {A : Type ℓ} (n : ℕ) (s : List ℕ) (x y z : A) → length s ≡ n → x ≡ pick (eqb (length s) n) y z → x ≡ y
+unfolding pick
+past n s x y z h e = rw (eq-eqb _ _ h) at e
+
+pub the-call-refuses-exactly : TheCallRefusesExactly
+unfolding TheCallRefusesExactly CompilingRefusesExactly
+the-call-refuses-exactly source serial out s out′ s′ r c h = record {
+  said = compileAnswer source serial (length out);
+  first = past 32 s _ _ _ h (c .number);
+  rest = past 32 s _ _ _ h (c .numbers);
+  exactly = refuses-exactly source serial (length out);
+}
+
+module _ (source : List ℕ) (serial : ℕ) (out : List ℕ) (accepted : Accepted source) (room : needed serial source ≤ length out) where
+  is-done : compileAnswer source serial (length out) ≡ answer Fault.Done 0 0 (needed serial source)
+  unfolding CompilingRefusesExactly
+  is-done = refuses-exactly source serial (length out) .done accepted room
+
+  -- the bytes that were written: as many as are needed
+  bytes-are : take (needed serial source) (compileOutput source serial out) ≡ compiledBytes source serial out
+  unfolding compiledBytes answer
+  bytes-are = rw is-done
+
+  tells : (q : Question) (ordinal : ℕ) → Askable q → Tells source serial (compiledBytes source serial out) q ordinal (askReply (compiledBytes source serial out) q ordinal)
+  unfolding Tells CompilingKeepsTheMeaning
+  tells q ordinal a = keeps-the-meaning source serial out q ordinal accepted room (a .name) (a .moment) (a .client)
+
+  -- the same of a buffer that holds what compiling leaves
+  tells-in : (out′ : List ℕ) → out′ ≡ compileOutput source serial out → (q : Question) (ordinal : ℕ) → Askable q
+      → Tells source serial (take (needed serial source) out′) q ordinal (askReply (take (needed serial source) out′) q ordinal)
+  tells-in out′ e q ordinal a =
+      let same : compiledBytes source serial out ≡ take (needed serial source) out′ = sym bytes-are ∙ ap (take (needed serial source)) (sym e) in
+      subst (λ (b : List ℕ). Tells source serial b q ordinal (askReply b q ordinal)) same (tells q ordinal a)
+
+pub the-calls-keep-the-meaning : TheCallsKeepTheMeaning
+unfolding TheCallsKeepTheMeaning answer
+the-calls-keep-the-meaning source serial out s out′ s′ r q ordinal t t′ m c h accepted room a k askable = (
+  past 32 s _ _ _ h (c .number) ∙ ap (λ (x : Answer). faultNumber (x .fault)) (is-done source serial out accepted room),
+  record {
+    reply = askReply (take (needed serial source) out′) q ordinal;
+    first = past 40 t _ _ _ k (a .number);
+    rest = past 40 t _ _ _ k (a .numbers);
+    tells = tells-in source serial out accepted room out′ (past 32 s _ _ _ h (c .output)) q ordinal askable;
+  },
+)
+
+-- ---- compile_and_ask
+
+-- only the number 0 is done
+done-is : (f : Fault) → isDone f ≡ true → f ≡ Fault.Done
+unfolding isDone
+done-is Fault.Done e = refl
+done-is Fault.SourceTooLong e = absurd (false-true e)
+done-is Fault.LineTooLong e = absurd (false-true e)
+done-is Fault.UnknownKind e = absurd (false-true e)
+done-is Fault.TooManyFields e = absurd (false-true e)
+done-is (Fault.Malformed FieldKind.Name) e = absurd (false-true e)
+done-is (Fault.Malformed FieldKind.Address) e = absurd (false-true e)
+done-is (Fault.Malformed FieldKind.Number) e = absurd (false-true e)
+done-is (Fault.Malformed FieldKind.Time) e = absurd (false-true e)
+done-is (Fault.Malformed FieldKind.Lo) e = absurd (false-true e)
+done-is (Fault.Malformed FieldKind.Escape) e = absurd (false-true e)
+done-is Fault.ReservedType e = absurd (false-true e)
+done-is (Fault.Empty kind) e = absurd (false-true e)
+done-is Fault.NoRoom e = absurd (false-true e)
+
+module _ (source : List ℕ) (serial : ℕ) (out out′ : List ℕ) (a : Answer) (done : Bool) (c : IsCompiled source serial out out′ a) (f : done ≡ isDone (a .fault)) where
+  -- compiling is done exactly where the source is accepted and there is room
+  accepted-done : Accepted source → needed serial source ≤ length out → isDone (a .fault) ≡ true
+  unfolding answer isDone
+  accepted-done ok room = ap (λ (x : Answer). isDone (x .fault)) (c .answer ∙ is-done source serial out ok room)
+
+  done-accepted : done ≡ true → Accepted source × (needed serial source ≤ length out)
+  unfolding CompilingRefusesExactly
+  done-accepted d = refuses-exactly source serial (length out) .onlyDone (ap (λ (x : Answer). x .fault) (sym (c .answer)) ∙ done-is (a .fault) (sym f ∙ d))
+
+  pub not-compiled : (q : Question) (ordinal : ℕ) → not done ≡ true → Serves source serial out q ordinal out′ (Outcome.NotCompiled a)
+  unfolding pick
+  not-compiled q ordinal t =
+      let d : isDone (a .fault) ≡ false = sym f ∙ not-true done t in
+      record {
+        outcome = rw (← c .answer, d);
+        output = c .output;
+        meaning = λ ok room askable. absurd (false-true (sym d ∙ accepted-done ok room));
+      }
+
+  module _ (t : not done ≡ false) where
+    is-accepted : Accepted source × (needed serial source ≤ length out)
+    is-accepted = done-accepted (not-false done t)
+
+    count-is : a .bytes ≡ needed serial source
+    unfolding answer
+    count-is = ap (λ (x : Answer). x .bytes) (c .answer ∙ is-done source serial out (is-accepted .0) (is-accepted .1))
+
+    pub written-fits : length out′ ≡ length out → a .bytes ≤ length out′
+    written-fits e = omega (arith, count-is, is-accepted .1)
+
+    pub written-count : length out′ ≡ length out → a .bytes ≡ length (take (a .bytes) out′)
+    written-count e = front-count out′ (a .bytes) (length out′) refl (written-fits e)
+
+    pub served : (q : Question) (ordinal : ℕ) (reply : Reply) → reply ≡ askReply (take (a .bytes) out′) q ordinal
+        → Serves source serial out q ordinal out′ (Outcome.Asked reply)
+    unfolding pick compiledBytes
+    served q ordinal reply e =
+        let d : isDone (a .fault) ≡ true = sym f ∙ not-false done t in
+        record {
+          outcome = rw (← c .answer, d, ← c .output, ← e);
+          output = c .output;
+          meaning = λ ok room askable. (reply, (refl, rw (e, count-is) (tells-in source serial out ok room out′ (c .output) q ordinal askable)));
+        }
+
+pub ruleset serve·laws = (needs, written-fits, written-count)

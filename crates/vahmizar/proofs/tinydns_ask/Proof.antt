@@ -1,0 +1,23 @@
+use Rattle.vahmizar.proofs.Laid.{ask-length, ask-called}
+use borrow.Author.Needs.{needs}
+use Rattle.vahmizar.proofs.tinydns_ask.Statement.{statement}
+use Rattle.vahmizar.proofs.tinydns_ask.Tie as tie
+
+returns : tie.Need-returns
+returns c = search (ask-length)
+
+ask-requires : tie.Need-ask-requires
+ask-requires c κs = search needs
+
+put-reply-requires : tie.Need-put-reply-requires
+put-reply-requires c κs = search needs
+
+same-length : tie.Need-same-length
+same-length c = search needs
+
+returns-2 : tie.Need-returns-2
+returns-2 c = search (ask-called)
+
+pub tinydns-ask-spec : {M : Type 1} → statement M
+tinydns-ask-spec =
+    tie.close (tie.spec returns ask-requires put-reply-requires same-length returns-2)

@@ -1,0 +1,58 @@
+// The calls that a name server makes, and both together. specs/Promises.antt says what each promises.
+ghost use Rattle.vahmizar.specs.Promises.{Compiles, Asks};
+
+pub mod both;
+mod numbers;
+
+use compiler::compile::compile;
+use numbers::put_four;
+use numbers::put_reply;
+use reader::ask;
+use rules::faults::number;
+use rules::quantities::Moment;
+
+// Compiles a source; the answer's numbers go into 32 lent bytes, and the first is returned.
+#[no_mangle]
+pub extern "C" fn tinydns_compile(
+    source: &[u8],
+    serial: u32,
+    out: &mut [u8],
+    answer: &mut [u8],
+) -> u64
+    ensures { λ r. ⌜ Compiles (now (source .entry)) serial (now (out .entry)) (now (answer .entry)) (now (out .exit)) (now (answer .exit)) r ⌝ }
+{
+    if answer.len() != 32 {
+        return 19;
+    }
+    let said = compile(source, serial, out);
+    let fault = said.fault;
+    let first = number(fault);
+    put_four(
+        answer,
+        first,
+        said.line as u64,
+        said.field as u64,
+        said.bytes as u64,
+    );
+    first
+}
+
+// Asks for the record of an ordinal; the reply's numbers go into 40 lent bytes, and the first is returned.
+#[no_mangle]
+pub extern "C" fn tinydns_ask(
+    records: &[u8],
+    name: &[u8],
+    qtype: u16,
+    client: &[u8],
+    moment: u64,
+    ordinal: u64,
+    answer: &mut [u8],
+) -> u64
+    ensures { λ r. ⌜ Asks (now (records .entry)) (record { name = now (name .entry); type = qtype; client = now (client .entry); moment = moment }) ordinal (now (answer .entry)) (now (answer .exit)) r ⌝ }
+{
+    if answer.len() != 40 {
+        return 19;
+    }
+    let reply = ask(records, name, qtype, client, Moment(moment), ordinal);
+    put_reply(answer, reply)
+}

@@ -1,0 +1,38 @@
+//! The session that README.md shows is what the command prints.
+
+mod support;
+
+use std::fs;
+use std::path::Path;
+use support::Folder;
+
+#[test]
+fn the_readme_shows_what_the_command_prints() {
+    let root = Path::new(env!("CARGO_MANIFEST_DIR")).join("../..");
+    let readme = fs::read_to_string(root.join("README.md")).expect("README.md");
+    let town = fs::read(root.join("examples/town")).expect("examples/town");
+    let folder = Folder::new("readme");
+    fs::create_dir(folder.file("examples")).expect("a folder for the test");
+    folder.write("examples/town", town);
+
+    let mut commands = 0;
+    let mut printed = String::new();
+    let mut shown = String::new();
+    for line in readme.lines().map(str::trim_start) {
+        if let Some(words) = line.strip_prefix("$ ./vahmizar ") {
+            assert_eq!(shown, printed, "in front of: {line}");
+            let words: Vec<_> = words.split(' ').collect();
+            printed = folder.good(&words);
+            shown.clear();
+            commands += 1;
+        } else if line.is_empty() || line.starts_with("```") {
+            assert_eq!(shown, printed, "at the end of a session");
+            shown.clear();
+            printed.clear();
+        } else if !printed.is_empty() {
+            shown.push_str(line);
+            shown.push('\n');
+        }
+    }
+    assert!(commands > 5, "the README shows a session");
+}
