@@ -17,9 +17,9 @@ use Rattle.rules.specs.Records.{Record, location, loBytes}
 use Rattle.rules.specs.Questions.{matches, Best, better, bestOf, locationOf}
 use Rattle.rules.specs.Reading.{recordIn, ontoRecords, decode}
 use Rattle.wire.proofs.Parts.{tail-lent}
-use Rattle.stream.specs.declared.record.Seen.{Seen}
-use Rattle.stream.specs.declared.head.Span.{Span}
-use Rattle.stream.specs.Seen.{seenRecord}
+use Rattle.judge.specs.declared.Seen.{Seen}
+use Rattle.stream.specs.declared.Span.{Span}
+use Rattle.judge.specs.Seen.{seenRecord}
 use Rattle.stream.specs.Spans.{part, IsSpan}
 use Rattle.stream.proofs.Heads.{decode-nil}
 use Rattle.locate.specs.declared.Located.{Located}
@@ -27,7 +27,7 @@ use Rattle.locate.specs.declared.Judged.{Judged}
 use Rattle.locate.specs.Locations.{betterIn, locatedIn, locatedFrom, bestSeen, judgedLo, fromIn}
 use Rattle.locate.specs.Skips.{Skips}
 use Rattle.locate.proofs.Skipping.{skips-none, skips-more}
-use Rattle.stream.proofs.Shapes.{shaped}
+use Rattle.judge.proofs.Shapes.{shaped}
 
 -- ---- a prefix
 

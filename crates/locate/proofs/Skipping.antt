@@ -11,7 +11,7 @@ use lib.Dec.{eqb}
 use Rattle.rules.specs.Lists.{pick, sameBytes, valueOr}
 use Rattle.rules.specs.Questions.{ancestors}
 use Rattle.rules.specs.Reading.{recordIn, decode}
-use Rattle.stream.specs.declared.head.Span.{Span}
+use Rattle.stream.specs.declared.Span.{Span}
 use Rattle.stream.specs.Spans.{IsSpan}
 use Rattle.level.specs.Ranks.{among, rankIn, largest, seenRank}
 use Rattle.level.proofs.KeyRanks.{unrelated}

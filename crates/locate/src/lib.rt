@@ -7,11 +7,11 @@ ghost use Rattle.rules.specs.Questions.{matches};
 ghost use Rattle.rules.specs.Reading.{recordIn, decode};
 ghost use Rattle.locate.specs.Locations.{bestSeen, betterIn, judgedLo, locatedIn, fromIn};
 ghost use Rattle.locate.specs.Skips.{Skips, skipped};
+use judge::Seen;
+use judge::record_in;
 use level::is_related;
 use rules::quantities::Lo;
-use stream::head::span_at;
-use stream::record::Seen;
-use stream::record::record_in;
+use stream::span_at;
 use wire::get::begins_with;
 
 // The location of the longest prefix so far, and how long a better prefix is at least; or that a record is malformed.

@@ -19,15 +19,15 @@ use Rattle.rules.specs.Records.{Record, location, resource, loBytes}
 use Rattle.rules.specs.Bytes.{size, rdataOf}
 use Rattle.rules.specs.Questions.{placedFrom, ofType, lifetimeOf}
 use Rattle.rules.specs.Reading.{recordIn, decode, typeOf, replyOf}
-use Rattle.stream.specs.declared.head.Span.{Span}
-use Rattle.stream.specs.declared.record.Seen.{Seen}
-use Rattle.stream.specs.Seen.{ownerOf, seenRecord, fixedIn}
+use Rattle.stream.specs.declared.Span.{Span}
+use Rattle.judge.specs.declared.Seen.{Seen}
+use Rattle.judge.specs.Seen.{ownerOf, seenRecord, fixedIn}
 use Rattle.stream.specs.Spans.{IsSpan}
 use Rattle.stream.proofs.Heads.{decode-nil}
 use Rattle.view.specs.Views.{sharing}
 use Rattle.level.specs.Ranks.{seenRank, rankIn}
 use Rattle.picks.specs.Picks.{wanted, wantedIn, replyIn, pickedFrom}
-use Rattle.stream.proofs.Shapes.{shaped, size-is}
+use Rattle.judge.proofs.Shapes.{shaped, size-is}
 use Rattle.level.proofs.Bests.{Whole, whole-at, rest-whole}
 
 -- ---- one record

@@ -8,12 +8,12 @@ ghost use Rattle.rules.specs.Lists.{lower, isSome, valueOr};
 ghost use Rattle.rules.specs.Records.{loBytes};
 ghost use Rattle.rules.specs.Reading.{recordIn, decode};
 ghost use Rattle.picks.specs.Picks.{wantedIn, replyIn, pickedFrom};
+use judge::Seen;
+use judge::record_in;
 use level::rank_in;
 use rules::quantities::Lo;
 use rules::replies::Reply;
-use stream::head::span_at;
-use stream::record::Seen;
-use stream::record::record_in;
+use stream::span_at;
 use view::lifetime;
 
 // Whether a record is of the level and of the type asked for, 255 for any.
