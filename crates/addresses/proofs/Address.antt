@@ -12,10 +12,12 @@ use lib.ListN.{length, getD, take, set, length-set}
 use lib.Seq.{take-all}
 use Rattle.rules.specs.Lists.{pick, has, all, joinAll, splitOn, be}
 use Rattle.rules.specs.Fields.{octet, octetByte, addressIf, addressOf, prefixOf}
-use Rattle.addresses.specs.Addresses.{octetsRead, IsOctets, groupsBytes, groupsRead, IsGroups, dottedAddress, groupedAddress, addressRead, IsAddress, prefixRead, IsPrefix}
+use Rattle.octets.specs.Octets.{octetsRead, IsOctets}
+use Rattle.groups.specs.Groups.{groupsBytes, groupsRead, IsGroups}
+use Rattle.addresses.specs.Addresses.{dottedAddress, groupedAddress, addressRead, IsAddress, prefixRead, IsPrefix}
 use Rattle.addresses.specs.declared.addresses.AddressRead.{AddressRead}
-use Rattle.addresses.specs.declared.groups.GroupsRead.{GroupsRead}
-use Rattle.addresses.specs.declared.octets.OctetsRead.{OctetsRead}
+use Rattle.groups.specs.declared.groups.GroupsRead.{GroupsRead}
+use Rattle.octets.specs.declared.octets.OctetsRead.{OctetsRead}
 
 no-address : (x : Option (List ℕ)) (bytes : List ℕ) → none ≡ x → length bytes ≡ 16 → IsAddress x (record { bytes = bytes; len = 0 })
 unfolding addressRead pick

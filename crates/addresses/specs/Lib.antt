@@ -1,3 +1,2 @@
-pub mod Views
 pub mod Addresses
-pub mod Pieces
+pub mod HeldAddress

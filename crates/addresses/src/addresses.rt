@@ -1,10 +1,10 @@
 // ip and prefix.
 ghost use Rattle.rules.specs.Fields.{addressOf, prefixOf};
 ghost use Rattle.addresses.specs.Addresses.{dottedAddress, groupedAddress, IsAddress, IsPrefix};
-use crate::groups::address_bytes;
-use crate::groups::groups;
-use crate::octets::octets;
-use wire::get::has_byte;
+use groups::groups::address_bytes;
+use groups::groups::groups;
+use octets::octets::octets;
+use pieces::pieces::has_byte;
 
 // The first len bytes: 4, 16, or none where the text is no address.
 pub struct AddressRead {

@@ -1,5 +1,2 @@
-// Addresses and prefixes, the fields made of numbers and hexadecimal digits.
+// Addresses and prefixes.
 pub mod addresses;
-mod groups;
-mod octets;
-mod pieces;

@@ -19,7 +19,7 @@ use Rattle.buffer.proofs.Puts.{behind-length, within, then}
 use Rattle.heads.specs.Head.{headSize}
 use Rattle.addresses.specs.declared.addresses.AddressRead.{AddressRead}
 use Rattle.names.specs.Held.{heldName, IsName}
-use Rattle.hosts.specs.Hosts.{heldAddress, IsHeld}
+use Rattle.addresses.specs.HeldAddress.{heldAddress, IsHeld}
 use Rattle.aliases.specs.Alone.{saysAddress, IsAddressLine, Holding, aliasRecords, pointerRecord, backRecords}
 use Rattle.aliases.specs.declared.aliases.AddressLine.{AddressLine}
 use Rattle.names.specs.declared.names.Name.{Name}

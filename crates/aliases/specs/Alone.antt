@@ -10,7 +10,7 @@ use Rattle.rules.specs.Names.{wireOf}
 use Rattle.rules.specs.Records.{Record, sharedOf, resourceOf, reverseName, addressRecords, addressIn}
 use Rattle.rules.specs.declared.kinds.Kind.{Kind}
 use Rattle.names.specs.Held.{heldName, IsName}
-use Rattle.hosts.specs.Hosts.{heldAddress, IsHeld}
+use Rattle.addresses.specs.HeldAddress.{heldAddress, IsHeld}
 use Rattle.aliases.specs.declared.aliases.AddressLine.{AddressLine}
 
 -- the two kinds

@@ -1,3 +1,3 @@
+pub mod Front
 pub mod Puts
 pub mod Stores
-pub mod Front

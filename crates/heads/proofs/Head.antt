@@ -1,7 +1,7 @@
 -- The laws of a record's head.
 use mathlib.Core.Path.{_≡_, _∙_, sym}
 use mathlib.Core.Bool.{Bool, true, false}
-use mathlib.Core.List.{List, [], _∷_, _++_, map}
+use mathlib.Core.List.{List, [], _∷_, _++_, map, append-assoc}
 use Prim.Native.Nat.{ℕ, _+_, _-_, _<_, _≤_}
 use native.Mathlib.Omega.{arith}
 use borrow.Author.Needs.{needs}
@@ -118,9 +118,10 @@ flag-lo true (Lo.Code x y) b e = rw e
 
 -- the parts of a head
 pub fixed-is : (shared : Shared) (owner : List ℕ) (type : ℕ) (w : Bool) → w ≡ wild owner
-    → be 2 type ++ flagAndLo w (loBytes (shared .lo)) ++ be 4 (shared .ttl .0) ++ be 8 (shared .time .0) ≡ fixedFields shared owner type
+    → be 2 type ++ flagAndLo w (loBytes (shared .lo)) ++ (be 4 (shared .ttl .0) ++ be 8 (shared .time .0)) ≡ fixedFields shared owner type
 unfolding fixedFields
-fixed-is shared owner type w e = rw e
+fixed-is shared owner type w e =
+    rw e (sym (append-assoc (be 2 type ++ flagAndLo (wild owner) (loBytes (shared .lo))) (be 4 (shared .ttl .0)) (be 8 (shared .time .0))))
 
 pub head-is : (shared : Shared) (owner : List ℕ) (type n k l : ℕ) → k ≡ keySize owner → l ≡ length (loBytes (shared .lo))
     → le 4 k ++ le 4 (15 + l + n) ++ ownerKey owner ++ fixedFields shared owner type ≡ headOf shared owner type n

@@ -3,18 +3,18 @@ ghost use mathlib.Core.Path.{_≡_};
 ghost use mathlib.Core.List.{_++_};
 ghost use Prim.Native.Nat.{_+_, _≤_};
 ghost use lib.ListN.{length};
-ghost use Rattle.rules.specs.Lists.{le};
+ghost use Rattle.rules.specs.Lists.{be, le};
 ghost use Rattle.rules.specs.Records.{loBytes};
 ghost use Rattle.rules.specs.Bytes.{wild, flagAndLo};
 ghost use Rattle.buffer.specs.Put.{IsPut};
 ghost use Rattle.heads.specs.Head.{ownerKey, keySize, flagOf, fixedFields, fixedSize, headOf, headSize};
 use buffer::put::put_byte;
-use buffer::put::put_le;
 use buffer::put::put_lowered;
 use buffer::put::put_two;
-use buffer::put::put_u16;
-use buffer::put::put_u32;
-use buffer::put::put_u64;
+use integers::integers::put_le;
+use integers::integers::put_u16;
+use integers::integers::put_u32;
+use integers::integers::put_u64;
 use rules::quantities::Lo;
 use rules::quantities::Shared;
 
@@ -118,6 +118,15 @@ fn put_key(out: &mut [u8], owner: &[u8]) -> usize
     put_lowered(out, owner)
 }
 
+fn put_times(out: &mut [u8], ttl: u32, time: u64) -> usize
+    requires { ⌜ 12 ≤ length (now out) ⌝ }
+    ensures { λ r. ⌜ IsPut (be 4 ttl ++ be 8 time) (now (out .entry)) (now (out .exit)) r ⌝ }
+    ensures { λ r. ⌜ r ≡ 12 ⌝ }
+{
+    let used = put_u32(out, ttl);
+    used + put_u64(&mut out[used..], time)
+}
+
 // The fields before the record data.
 fn put_fixed(out: &mut [u8], owner: &[u8], rtype: u16, shared: Shared) -> usize
     requires { ⌜ fixedSize (shared .lo) ≤ length (now out) ⌝ }
@@ -129,18 +138,7 @@ fn put_fixed(out: &mut [u8], owner: &[u8], rtype: u16, shared: Shared) -> usize
     let lo = shared.lo;
     let a = put_u16(out, rtype);
     let b = a + put_flag(&mut out[a..], is_wild(owner), lo);
-    let c = b + put_u32(&mut out[b..], ttl.0);
-    c + put_u64(&mut out[c..], time.0)
-}
-
-// How many bytes a record takes before its data.
-fn head_size(owner: &[u8], shared: Shared) -> usize
-    requires { ⌜ length (now owner) ≤ 255 ⌝ }
-    ensures { λ r. ⌜ r ≡ headSize shared (now (owner .entry)) ⌝ }
-    ensures { λ r. ⌜ r ≤ 25 + length (now (owner .entry)) ⌝ }
-{
-    let lo = shared.lo;
-    23 + key_size(owner) + lo_size(lo)
+    b + put_times(&mut out[b..], ttl.0, time.0)
 }
 
 // All of a record before its data, for which there is room too.

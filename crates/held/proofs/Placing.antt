@@ -10,12 +10,12 @@ use Rattle.rules.specs.declared.quantities.Lo.{Lo}
 use Rattle.rules.specs.declared.quantities.Shared.{Shared}
 use Rattle.rules.specs.Lists.{pick, isSome}
 use Rattle.rules.specs.Reading.{recordIn}
-use Rattle.stream.specs.declared.head.Head.{Head}
-use Rattle.stream.specs.declared.head.Head.the-variants.{Whole, Broken}
-use Rattle.stream.specs.declared.record.Seen.{Seen}
+use Rattle.stream.specs.declared.Head.{Head}
+use Rattle.stream.specs.declared.Head.the-variants.{Whole, Broken}
+use Rattle.judge.specs.declared.Seen.{Seen}
 use Rattle.stream.specs.Heads.{sizeAt, headOf, recordAt}
 use Rattle.stream.specs.Spans.{part}
-use Rattle.stream.specs.Seen.{seenRecord}
+use Rattle.judge.specs.Seen.{seenRecord}
 use Rattle.stream.proofs.Heads.{malformed, broken-is}
 use Rattle.stream.proofs.Spans.{head-left, whole, key-part, data-part}
 use Rattle.held.specs.declared.place.Found.{Found}

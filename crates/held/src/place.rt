@@ -4,10 +4,10 @@ ghost use mathlib.Core.Bool.{true};
 ghost use Rattle.rules.specs.Lists.{isSome};
 ghost use Rattle.rules.specs.Reading.{recordIn};
 ghost use Rattle.held.specs.Places.{foundAt};
-use stream::head::Head;
-use stream::head::head_of;
-use stream::record::Seen;
-use stream::record::record_in;
+use judge::Seen;
+use judge::record_in;
+use stream::Head;
+use stream::head_of;
 
 // Where a record's key begins, where its data begin and where the next record begins; or that no whole record is there, and then all three are the place itself.
 pub struct Found {

@@ -9,7 +9,7 @@ use Rattle.rules.specs.Records.{Record, sharedOf, hostName, addressIn}
 use Rattle.rules.specs.declared.kinds.Kind.{Kind}
 use Rattle.rules.specs.declared.quantities.Shared.{Shared}
 use Rattle.names.specs.Held.{heldName}
-use Rattle.hosts.specs.Hosts.{heldAddress}
+use Rattle.addresses.specs.HeldAddress.{heldAddress}
 use Rattle.hosts.specs.HostLines.{middleOf, IsHostLine, Lendable}
 use Rattle.hosts.specs.declared.hosts.HostLine.{HostLine}
 

@@ -1,5 +1,2 @@
-pub mod Label
-pub mod Giving
-pub mod Addressing
 pub mod HostReading
 pub mod HostRecords

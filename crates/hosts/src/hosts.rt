@@ -2,26 +2,23 @@
 ghost use mathlib.Core.Path.{_≡_};
 ghost use mathlib.Core.Bool.{true};
 ghost use Prim.Native.Nat.{_≤_, _<_};
-ghost use lib.Dec.{eqb};
 ghost use lib.ListN.{length};
-ghost use Rattle.rules.specs.Lists.{pick, splitOn};
+ghost use Rattle.rules.specs.Lists.{splitOn};
 ghost use Rattle.rules.specs.Kinds.{fieldAt};
 ghost use Rattle.rules.specs.Names.{nameOf, wireOf};
-ghost use Rattle.rules.specs.Records.{hostName, addressRecords, addressIn};
-ghost use Rattle.rules.specs.Bytes.{bytesOf};
-ghost use Rattle.buffer.specs.Put.{IsPut};
+ghost use Rattle.rules.specs.Records.{hostName, addressIn};
 ghost use Rattle.names.specs.Views.{isNamed};
 ghost use Rattle.splits.specs.Splits.{FieldsOf};
 ghost use Rattle.names.specs.Held.{heldName, IsName};
-ghost use Rattle.hosts.specs.Hosts.{HostGood, heldAddress, IsHeld};
+ghost use Rattle.given.specs.Given.{HostGood};
+ghost use Rattle.addresses.specs.HeldAddress.{heldAddress, IsHeld};
 ghost use Rattle.values.specs.Ready.{Ready};
 ghost use Rattle.hosts.specs.HostLines.{middleOf, namesHost, IsHostLine};
-use crate::given::read_host;
 use addresses::addresses::AddressRead;
 use addresses::addresses::address;
+use given::given::read_host;
 use names::names::Name;
 use names::names::read_name;
-use records::resources::put_resource;
 use rules::kinds::Kind;
 use rules::quantities::Shared;
 use splits::splits::Span;
@@ -34,25 +31,6 @@ pub struct HostLine {
     pub owner: Name,
     pub host: Name,
     pub address: AddressRead,
-}
-
-fn address_type(len: usize) -> u16
-    ensures { λ r. ⌜ r ≡ pick (eqb len 4) 1 28 ⌝ }
-{
-    if len == 4 { 1 } else { 28 }
-}
-
-pub fn put_address(out: &mut [u8], owner: &[u8], address: AddressRead, shared: Shared) -> usize
-    requires { ⌜ IsHeld address × (length (bytesOf (addressRecords shared (now owner) (heldAddress address))) ≤ length (now out)) ⌝ }
-    ensures { λ r. ⌜ IsPut (bytesOf (addressRecords shared (now (owner .entry)) (heldAddress address))) (now (out .entry)) (now (out .exit)) r ⌝ }
-{
-    let len = address.len;
-    if len == 0 {
-        return 0;
-    }
-    let bytes = address.bytes;
-    let rtype = address_type(len);
-    put_resource(out, owner, rtype, shared, &bytes[..len])
 }
 
 // The name that field i is.

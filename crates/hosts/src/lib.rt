@@ -1,3 +1,2 @@
-// What a line says of a host: its name, and its address record.
-mod given;
+// What a line says of a host.
 pub mod hosts;

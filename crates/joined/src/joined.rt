@@ -10,13 +10,13 @@ ghost use Rattle.splits.specs.Splits.{FieldsOf};
 ghost use Rattle.joined.specs.Joined.{middleSize, contactSize, hostSize, ifShort};
 use names::names::NameJudged;
 use names::names::judge_name;
+use pieces::pieces::has_byte;
 use rules::faults::Fault;
 use rules::faults::FieldKind;
 use rules::faults::LineFault;
 use rules::kinds::Kind;
 use splits::splits::Span;
 use splits::splits::field;
-use wire::get::has_byte;
 
 // The size of a name on the wire, 0 if the text is none.
 fn name_size(text: &[u8]) -> usize

@@ -9,12 +9,13 @@ use borrow.Author.Tests.{eq-eqb, ne-eqb, le-leb, lt-leb, eqb-true, eqb-false, lt
 use lib.Dec.{eqb, leb, ltb}
 use lib.ListN.{length, getD, drop, length-drop, drop-of-length-le}
 use lib.Seq.{drop-drop}
-use Rattle.rules.specs.Lists.{all, beginsWith}
+use Rattle.rules.specs.Lists.{pick, all, beginsWith}
 use Rattle.rules.specs.Names.{labels, isWire, longestName}
 use Rattle.rules.specs.Fields.{letter}
 use Rattle.rules.specs.Bytes.{wild}
 use Rattle.rules.specs.Reading.{lowered, isLo}
 use Rattle.wire.proofs.Steps.{left-at}
+use Rattle.keys.specs.Keys.{upperCount}
 
 -- a test that says what another does
 eqb-is : (a b : ℕ) (t : Bool) → (t ≡ true → a ≡ b) → (t ≡ false → a ≡ b → ⊥) → t ≡ eqb a b
@@ -76,34 +77,49 @@ module _ (name : List ℕ) (i : ℕ) (e : labels 0 (drop i name) ≡ isWire name
 pub ruleset wire·laws = (needs, too-long, short-enough, closed, label-long, label-passed, unclosed)
 
 -- a byte of A to Z
-pub below-upper : (b : ℕ) → b < 65 → false ≡ (leb 65 b && leb b 90)
-below-upper b h = rw (lt-leb _ _ h)
+module _ (b : ℕ) where
+  pub below-upper : b < 65 → 0 ≡ upperCount b
+  unfolding upperCount pick
+  below-upper h = rw (lt-leb _ _ h)
 
--- b < 91 as the code tests it, where b is no less than 65
-pub upper-is : (b : ℕ) → 65 ≤ b → ltb b 91 ≡ (leb 65 b && leb b 90)
-upper-is b h = rw (le-leb _ _ h) (leb-is b 90 (ltb b 91) (λ t. omega (arith, ltb-true b 91 t)) (λ t. omega (arith, ltb-false b 91 t)))
+  pub above-upper : 90 < b → 0 ≡ upperCount b
+  unfolding upperCount pick
+  above-upper h = rw (le-leb 65 b (omega arith), lt-leb _ _ h)
 
-pub ruleset upper·laws = (needs, below-upper, upper-is)
+  pub upper-is : 65 ≤ b → b ≤ 90 → 1 ≡ upperCount b
+  unfolding upperCount pick
+  upper-is h g = rw (le-leb _ _ h, le-leb _ _ g)
 
--- what is free so far and free from here on is free
-pub free-so-far : (key : List ℕ) → (true && lowered (drop 0 key)) ≡ lowered key
-free-so-far key = refl
+pub ruleset upper·laws = (needs, below-upper, above-upper, upper-is)
 
-module _ (key : List ℕ) (i : ℕ) (f : Bool) (e : (f && lowered (drop i key)) ≡ lowered key) where
-  module _ (t : Bool) (q : t ≡ (leb 65 (getD key i 0) && leb (getD key i 0) 90)) (h : i < length key) where
-    pub has-upper : t ≡ true → (false && lowered (drop (i + 1) key)) ≡ lowered key
+-- none so far and none from here on is none
+pub none-so-far : (key : List ℕ) → (eqb 0 0 && lowered (drop 0 key)) ≡ lowered key
+none-so-far key = refl
+
+module _ (key : List ℕ) (i k : ℕ) (e : (eqb k 0 && lowered (drop i key)) ≡ lowered key) where
+  module _ (c : ℕ) (q : c ≡ upperCount (getD key i 0)) (h : i < length key) where
+    left : (eqb k 0 && (not (leb 65 (getD key i 0) && leb (getD key i 0) 90) && lowered (drop (i + 1) key))) ≡ lowered key
     unfolding lowered all
-    has-upper u = rw (left-at key i h, ← q, u, and-false) at e
+    left = rw (left-at key i h) at e
 
-    pub no-upper : t ≡ false → (f && lowered (drop (i + 1) key)) ≡ lowered key
-    unfolding lowered all
-    no-upper u = rw (left-at key i h, ← q, u) at e
+    pub one-counted : (eqb (k + c) 0 && lowered (drop (i + 1) key)) ≡ lowered key
+    unfolding upperCount
+    one-counted = go (leb 65 (getD key i 0) && leb (getD key i 0) 90) q left
+      where
+        go : (t : Bool) → c ≡ pick t 1 0 → (eqb k 0 && (not t && lowered (drop (i + 1) key))) ≡ lowered key → (eqb (k + c) 0 && lowered (drop (i + 1) key)) ≡ lowered key
+        go true q e =
+            let p : c ≡ 1 = unfold pick in q in
+            rw (ne-eqb (k + c) 0 (λ z. omega arith)) (sym (and-false (eqb k 0)) ∙ e)
+        go false q e =
+            let p : c ≡ 0 = unfold pick in q in
+            let s : k + c ≡ k = omega arith in
+            rw s e
 
-  pub all-lowered : length key ≤ i → f ≡ lowered key
+  pub all-counted : length key ≤ i → eqb k 0 ≡ lowered key
   unfolding lowered all
-  all-lowered h = rw (drop-of-length-le key h, and-true) at e
+  all-counted h = rw (drop-of-length-le key h, and-true) at e
 
-pub ruleset lowered·laws = (needs, free-so-far, has-upper, no-upper, all-lowered)
+pub ruleset lowered·laws = (needs, none-so-far, one-counted, all-counted)
 
 -- the label `*` in front
 pub one-byte : (key : List ℕ) → length key < 2 → false ≡ wild key

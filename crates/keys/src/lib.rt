@@ -1,13 +1,13 @@
 // Names on the wire, as keys and questions have them, and lo.
 ghost use mathlib.Core.Path.{_≡_};
-ghost use mathlib.Core.Bool.{_&&_};
 ghost use mathlib.Core.List.{[], _∷_};
-ghost use lib.Dec.{leb};
+ghost use Prim.Native.Nat.{_≤_};
+ghost use lib.ListN.{length};
 ghost use Rattle.rules.specs.Names.{isWire};
 ghost use Rattle.rules.specs.Fields.{letter};
 ghost use Rattle.rules.specs.Bytes.{wild};
 ghost use Rattle.rules.specs.Reading.{lowered, isLo};
-ghost use Rattle.keys.specs.Keys.{goodKey};
+ghost use Rattle.keys.specs.Keys.{goodKey, upperCount};
 use wire::get::wide;
 
 // Whether bytes are a name on the wire. It goes from label to label.
@@ -32,32 +32,33 @@ pub fn is_wire(name: &[u8]) -> bool
     false
 }
 
-// Whether a byte is one of A to Z.
-fn is_upper(b: u8) -> bool
-    ensures { λ r. ⌜ r ≡ (leb 65 b && leb b 90) ⌝ }
+// 1 for one of A to Z, 0 for any other byte.
+fn upper(b: u8) -> u8
+    ensures { λ r. ⌜ r ≡ upperCount b ⌝ }
+    ensures { λ r. ⌜ r ≤ 1 ⌝ }
 {
     if b < 65 {
-        return false;
+        return 0;
     }
-    b < 91
+    if 90 < b {
+        return 0;
+    }
+    1
 }
 
-// Whether bytes are free of A to Z. It doesn't stop at the first: without a way out the loop takes many bytes at a time.
+// Whether bytes are free of A to Z. All are counted: without a way out the loop takes many bytes at a time, and so it does by a sum of one byte.
 fn is_lowered(key: &[u8]) -> bool
+    requires { ⌜ length (now key) ≤ 255 ⌝ }
     ensures { λ r. ⌜ r ≡ lowered (now (key .entry)) ⌝ }
 {
     let n = key.len();
-    let mut free = true;
+    let mut uppers: u8 = 0;
     let mut i: usize = 0;
     while i < n {
-        if is_upper(key[i]) {
-            free = false;
-            i += 1;
-        } else {
-            i += 1;
-        }
+        uppers += upper(key[i]);
+        i += 1;
     }
-    free
+    uppers == 0
 }
 
 // Whether the first label of a name is just `*`.

@@ -1,2 +1,3 @@
-// The kinds of line, and the table by kind.
+// What a line is: stripped, ignored or of a kind.
 pub mod kinds;
+pub mod strips;

@@ -14,7 +14,7 @@ use Rattle.rules.specs.Questions.{visible}
 use Rattle.rules.specs.Reading.{recordIn, ontoRecords, decode}
 use Rattle.rules.proofs.Names.{Wire}
 use Rattle.rules.proofs.Decoding.{wire-lower}
-use Rattle.stream.specs.declared.head.Span.{Span}
+use Rattle.stream.specs.declared.Span.{Span}
 use Rattle.stream.specs.Spans.{part, IsSpan}
 use Rattle.stream.proofs.Heads.{decode-nil}
 use Rattle.level.specs.Ranks.{rankOf, largest, seenRank, rankIn}

@@ -19,12 +19,12 @@ use Rattle.rules.specs.Reading.{lowered, ordinaryKey, wildcardKey, recordIn}
 use Rattle.rules.proofs.Tests.{tests, and-l, and-r}
 use Rattle.rules.proofs.Lists.{same-length, OnSome}
 use Rattle.rules.proofs.Decoding.{lower-fixed}
-use Rattle.stream.specs.declared.record.Seen.{Seen}
+use Rattle.judge.specs.declared.Seen.{Seen}
 use Rattle.keys.specs.Keys.{goodKey}
-use Rattle.stream.specs.Seen.{ownerOf, seenRecord}
-use Rattle.level.specs.Views.{sharing}
+use Rattle.judge.specs.Seen.{ownerOf, seenRecord}
+use Rattle.view.specs.Views.{sharing}
 use Rattle.level.specs.Ranks.{rankAmong, rankOf, among, keyRank, seenRank, rankIn}
-use Rattle.stream.proofs.Shapes.{Shape, shape, shaped, is-false}
+use Rattle.judge.proofs.Shapes.{Shape, shape, shaped, is-false}
 
 -- ---- keys
 

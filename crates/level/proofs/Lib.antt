@@ -1,5 +1,4 @@
 pub mod Levels
-pub mod Viewing
 pub mod Lowering
 pub mod Ranking
 pub mod Related

@@ -11,13 +11,10 @@ ghost use Rattle.rules.specs.Records.{loBytes};
 ghost use Rattle.rules.specs.Questions.{ancestors};
 ghost use Rattle.rules.specs.Reading.{recordIn, decode};
 ghost use Rattle.level.specs.Ranks.{among, keyRank, rankIn, seenRank, largest};
-
-pub mod view;
-
+use judge::Seen;
+use judge::record_in;
 use rules::quantities::Lo;
-use stream::head::span_at;
-use stream::record::Seen;
-use stream::record::record_in;
+use stream::span_at;
 use view::visible;
 use wire::get::wide;
 use wire::letters::lowered;

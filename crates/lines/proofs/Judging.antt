@@ -19,13 +19,13 @@ use Rattle.rules.specs.declared.faults.Fault.{Fault}
 use Rattle.rules.specs.declared.faults.LineFault.{LineFault}
 use Rattle.rules.specs.declared.kinds.Kind.{Kind}
 use Rattle.rules.specs.declared.kinds.Meaning.{Meaning}
-use Rattle.kinds.specs.Rows.{meaningOf, codes, rowOf}
+use Rattle.rows.specs.Rows.{meaningOf, codes, rowOf}
 use Rattle.splits.specs.Splits.{FieldsOf, IsSplit}
-use Rattle.splits.specs.Strips.{IsStripped}
-use Rattle.kinds.specs.declared.kinds.Row.{Row}
+use Rattle.kinds.specs.Strips.{IsStripped}
+use Rattle.rows.specs.declared.rows.Row.{Row}
 use Rattle.splits.specs.declared.splits.Fields.{Fields}
-use Rattle.splits.proofs.Stripping.{parted-line}
-use Rattle.kinds.proofs.Rows.{codes-mean, count-most}
+use Rattle.kinds.proofs.Stripping.{parted-line}
+use Rattle.rows.proofs.Table.{codes-mean, count-most}
 
 -- ---- one field
 

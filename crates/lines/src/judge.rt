@@ -8,13 +8,14 @@ ghost use Rattle.rules.specs.Kinds.{fieldAt};
 ghost use Rattle.rules.specs.Fields.{faultOf};
 ghost use Rattle.rules.specs.Answers.{fieldsFault, kindFault, lineFault};
 ghost use Rattle.splits.specs.Splits.{FieldsOf};
-ghost use Rattle.kinds.specs.Rows.{meaningOf};
+ghost use Rattle.rows.specs.Rows.{meaningOf};
 use fields::faults::field_fault;
 use joined::joined::joined_fault;
 use kinds::kinds::is_ignored;
 use kinds::kinds::kind_of;
-use kinds::kinds::meaning_of;
-use kinds::kinds::row_of;
+use kinds::strips::stripped;
+use rows::rows::meaning_of;
+use rows::rows::row_of;
 use rules::faults::Fault;
 use rules::faults::LineFault;
 use rules::faults::is_done;
@@ -22,7 +23,6 @@ use rules::kinds::Kind;
 use splits::splits::Span;
 use splits::splits::field;
 use splits::splits::split;
-use splits::strips::stripped;
 
 // The fault of field i, read as the meaning of its code.
 fn fault_at(rest: &[u8], spans: [Span; 11], codes: [u8; 11], i: usize) -> Fault

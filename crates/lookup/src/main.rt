@@ -11,7 +11,7 @@ use console::compiled::records_buffer;
 use console::files::read_file;
 use libc::STDERR_FILENO;
 use print::print_answers;
-use questions::pieces::line_end;
+use questions::spans::line_end;
 
 // Each line of the questions.
 fn ask_lines(records: &[u8], path: &[u8], text: &[u8]) {

@@ -1,3 +1,3 @@
+pub mod Holding
 pub mod Name
 pub mod Wire
-pub mod Holding

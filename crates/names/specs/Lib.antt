@@ -1,3 +1,3 @@
-pub mod Views
-pub mod NameCounts
 pub mod Held
+pub mod NameCounts
+pub mod Views

@@ -15,7 +15,7 @@ use Rattle.rules.specs.Questions.{Question, Placed, placedFrom, wildcardOf, anc
 use Rattle.rules.specs.Reading.{recordIn, ontoRecords, decodeOne, decodeFrom, decode, replyOf, replyFrom, replyDecoded, momentEnd, isClient, askReply}
 use Rattle.rules.proofs.Tests.{pick-ok, tests}
 use Rattle.rules.proofs.Lists.{OnSome, All, nil, cons, all-keep, all-map, all-at, all-head, all-tail}
-use Rattle.stream.proofs.Shapes.{Shape, shape, size-is}
+use Rattle.judge.proofs.Shapes.{Shape, shape, size-is}
 use Rattle.rules.specs.declared.quantities.Ttl.{Ttl}
 use Rattle.rules.specs.declared.replies.Reply.{Reply}
 use Rattle.questions.specs.Places.{Inside}

@@ -26,13 +26,13 @@ use Rattle.numbers.proofs.Number.{within}
 use Rattle.names.specs.Views.{judgedOf, isNamed}
 use Rattle.names.specs.declared.names.NameJudged.{NameJudged}
 use Rattle.wire.proofs.Parts.{front-count}
-use Rattle.hosts.specs.Hosts.{heldAddress, IsHeld}
+use Rattle.addresses.specs.HeldAddress.{heldAddress, IsHeld}
 use Rattle.names.specs.Held.{heldName, IsName}
 use Rattle.names.specs.declared.names.Name.{Name}
 use Rattle.questions.specs.Questions.{momentOf, Asker, askerOf, Asked, askedOf, questionFrom, questionIn, questionOf}
 use Rattle.questions.specs.Views.{momentRead, askerRead, IsAsker, IsWithin, IsNameRead, askedRead, IsAsked, spansRead, IsSpans, heldQuestion, questionRead, IsQuestion}
 use Rattle.questions.specs.Replies.{lineReply}
-use Rattle.questions.specs.declared.pieces.Spans.{Spans}
+use Rattle.questions.specs.declared.spans.Spans.{Spans}
 use Rattle.questions.specs.declared.questions.QuestionRead.{QuestionRead}
 use Rattle.questions.specs.declared.questions.LineReply.{LineReply}
 use Rattle.questions.specs.declared.moments.MomentRead.{MomentRead}

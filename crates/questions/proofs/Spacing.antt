@@ -11,11 +11,11 @@ use lib.Dec.{eqb}
 use lib.ListN.{length, take, drop}
 use lib.Seq.{drop-cons}
 use Rattle.rules.specs.Lists.{pick, ontoFirst, splitOn}
-use Rattle.addresses.specs.Pieces.{IsEnd, behindByte, piecesFrom}
-use Rattle.addresses.proofs.Piece.{piece-at, no-piece, all-pieces}
+use Rattle.pieces.specs.Pieces.{IsEnd, behindByte, piecesFrom}
+use Rattle.pieces.proofs.Piece.{piece-at, no-piece, all-pieces}
 use Rattle.questions.specs.Questions.{fourOf}
 use Rattle.questions.specs.Views.{spansRead, noSpans, IsSpans}
-use Rattle.questions.specs.declared.pieces.Spans.{Spans}
+use Rattle.questions.specs.declared.spans.Spans.{Spans}
 
 module _ (s : List ℕ) (r : Spans) (z : r ≡ noSpans) where
   none-of : none ≡ fourOf (splitOn 32 s) → IsSpans s r

@@ -9,7 +9,7 @@ use Rattle.rules.specs.Lists.{pick, splitOn}
 use Rattle.rules.specs.Names.{nameOf, wireOf}
 use Rattle.rules.specs.Questions.{Question}
 use Rattle.names.specs.Views.{isNamed}
-use Rattle.hosts.specs.Hosts.{heldAddress, IsHeld}
+use Rattle.addresses.specs.HeldAddress.{heldAddress, IsHeld}
 use Rattle.names.specs.Held.{heldName}
 use Rattle.names.specs.declared.names.Name.{Name}
 use Rattle.questions.specs.Questions.{Asker, Asked, Four, fourOf}
@@ -17,7 +17,7 @@ use Rattle.questions.specs.declared.askers.AskerRead.{AskerRead}
 use Rattle.questions.specs.declared.moments.MomentRead.{MomentRead}
 use Rattle.questions.specs.declared.asked.NameRead.{NameRead}
 use Rattle.questions.specs.declared.asked.AskedRead.{AskedRead}
-use Rattle.questions.specs.declared.pieces.Spans.{Spans}
+use Rattle.questions.specs.declared.spans.Spans.{Spans}
 use Rattle.questions.specs.declared.questions.QuestionRead.{QuestionRead}
 
 abbrev pub momentRead : MomentRead → Option ℕ

@@ -2,5 +2,5 @@
 pub mod asked;
 pub mod askers;
 pub mod moments;
-pub mod pieces;
 pub mod questions;
+pub mod spans;

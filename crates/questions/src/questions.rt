@@ -1,14 +1,14 @@
 // A line's question.
 ghost use mathlib.Core.Path.{_≡_};
 ghost use mathlib.Core.Option.{none};
-ghost use Rattle.hosts.specs.Hosts.{IsHeld};
+ghost use Rattle.addresses.specs.HeldAddress.{IsHeld};
 ghost use Rattle.rules.specs.Reading.{askReply};
 ghost use Rattle.questions.specs.Questions.{askerOf, askedOf, questionFrom, questionOf};
 ghost use Rattle.questions.specs.Views.{IsQuestion, IsWithin, heldQuestion};
 ghost use Rattle.questions.specs.Replies.{lineReply};
 use crate::asked::read_asked;
 use crate::askers::read_asker;
-use crate::pieces::split_line;
+use crate::spans::split_line;
 use addresses::addresses::AddressRead;
 use names::names::Name;
 use reader::ask;

@@ -17,8 +17,9 @@ use Rattle.rules.specs.Questions.{Placed, placedFrom, visible, level, ofType}
 use Rattle.rules.specs.Reading.{replyOf, decode}
 use Rattle.rules.proofs.Decoding.{wire-lower}
 use Rattle.level.specs.Ranks.{rankOf, largest, chosen, seenRank}
-use Rattle.reader.specs.Answers.{wanted, pickedFrom, answeredFrom}
-use Rattle.reader.specs.Skips.{Skips}
+use Rattle.picks.specs.Picks.{wanted, pickedFrom}
+use Rattle.reader.specs.Answers.{answeredFrom}
+use Rattle.locate.specs.Skips.{Skips}
 use Rattle.level.proofs.Levels.{level-is}
 
 -- ---- level and type in one test

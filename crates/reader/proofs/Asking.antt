@@ -18,9 +18,9 @@ use Rattle.rules.specs.Records.{Record, loBytes}
 use Rattle.rules.specs.Bytes.{size}
 use Rattle.rules.specs.Questions.{Question, Placed, placedFrom, locationOf, answers}
 use Rattle.rules.specs.Reading.{momentEnd, isClient, decode, replyFrom, replyDecoded, askReply}
-use Rattle.reader.specs.declared.locate.Judged.{Judged}
-use Rattle.reader.specs.Locations.{locatedIn, judgedLo, fromIn}
-use Rattle.reader.specs.Skips.{Skips}
+use Rattle.locate.specs.declared.Judged.{Judged}
+use Rattle.locate.specs.Locations.{locatedIn, judgedLo, fromIn}
+use Rattle.locate.specs.Skips.{Skips}
 use Rattle.reader.specs.Answers.{answeredFrom}
 
 -- ---- the client

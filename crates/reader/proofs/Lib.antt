@@ -1,5 +1,2 @@
-pub mod Picking
-pub mod Skipping
-pub mod Locating
 pub mod Answering
 pub mod Asking

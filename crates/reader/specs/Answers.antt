@@ -1,36 +1,14 @@
--- The records of an answer, as the pass over the stream picks them.
+-- The answer of whole records to a client who is here.
 use Prim.Native.Nat.{ℕ}
-use mathlib.Core.Bool.{Bool, false, _&&_}
 use mathlib.Core.List.{List}
-use mathlib.Core.Option.{Option, none, some}
 use lib.ListN.{getElem?}
-use lib.Dec.{eqb}
 use Rattle.rules.specs.declared.replies.Reply.{Reply}
 use Rattle.rules.specs.Lists.{keep}
-use Rattle.rules.specs.Records.{Record, location, resource}
+use Rattle.rules.specs.Records.{Record}
 use Rattle.rules.specs.Questions.{placedFrom, visible, level, ofType}
 use Rattle.rules.specs.Reading.{replyOf}
-use Rattle.level.specs.Ranks.{seenRank}
 
--- seen, of the level, and of the type
-unfoldable pub wanted : ℕ → List ℕ → List ℕ → ℕ → ℕ → Record → Bool
-wanted type name here moment best r = eqb (seenRank name here moment r) best && ofType type r
-
-unfoldable pub wantedIn : ℕ → List ℕ → List ℕ → ℕ → ℕ → Option Record → Bool
-wantedIn type name here moment best none = false
-wantedIn type name here moment best (some r) = wanted type name here moment best r
-
--- what is answered of a record that ends at a place; a location is never answered
-unfoldable pub replyIn : ℕ → ℕ → Option Record → Reply
-replyIn moment end none = Reply.NoMore
-replyIn moment end (some (location prefix lo)) = Reply.NoMore
-replyIn moment end (some (resource owner type lo ttl time rdata)) = replyOf moment (some (record { rec = resource owner type lo ttl time rdata; end = end }))
-
--- the record of an ordinal among the wanted ones of records that begin at a place
-unfoldable pub pickedFrom : ℕ → List ℕ → List ℕ → ℕ → ℕ → ℕ → ℕ → List Record → Reply
-pickedFrom type name here moment best at ordinal rs = replyOf moment (getElem? (keep (λ p. wanted type name here moment best (p .rec)) (placedFrom at rs)) ordinal)
-
--- the answer to a client who is here: level, then type, then ordinal
+-- level, then type, then ordinal
 unfoldable pub answeredFrom : ℕ → List ℕ → List ℕ → ℕ → ℕ → List Record → Reply
 answeredFrom type name here moment ordinal rs =
     replyOf moment (getElem? (keep (λ p. ofType type (p .rec)) (level name (keep (λ p. visible here moment (p .rec)) (placedFrom 0 rs)))) ordinal)

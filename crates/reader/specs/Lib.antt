@@ -1,3 +1,1 @@
-pub mod Locations
 pub mod Answers
-pub mod Skips

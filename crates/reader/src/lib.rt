@@ -3,7 +3,6 @@ ghost use mathlib.Core.Path.{_≡_};
 ghost use Rattle.rules.specs.Reading.{isClient, askReply};
 
 mod answer;
-mod locate;
 
 use answer::answer;
 use keys::is_wire;

@@ -9,8 +9,8 @@ ghost use Rattle.rules.specs.Bytes.{encode};
 ghost use Rattle.buffer.specs.Put.{IsPut};
 ghost use Rattle.heads.specs.Head.{headSize};
 use buffer::put::put_bytes;
-use buffer::put::put_u16;
 use heads::heads::put_head;
+use integers::integers::put_u16;
 use rules::quantities::Shared;
 
 pub fn put_resource(out: &mut [u8], owner: &[u8], rtype: u16, shared: Shared, rdata: &[u8]) -> usize

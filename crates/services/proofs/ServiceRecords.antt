@@ -1,12 +1,12 @@
--- The laws of mail and services.
+-- The laws of services.
 use mathlib.Core.Path.{_≡_, refl, _∙_}
 use mathlib.Core.List.{List, [], _∷_, _++_}
 use Prim.Native.Nat.{ℕ, _+_, _≤_}
 use native.Mathlib.Omega.{arith}
 use borrow.Author.Needs.{needs}
 use lib.ListN.{length, length-append}
-use Rattle.rules.specs.Lists.{splitOn, be}
-use Rattle.rules.specs.Records.{Record, mx, srv, shortAt, resourceOf, srvData, addressRecords, recordsOf}
+use Rattle.rules.specs.Lists.{splitOn}
+use Rattle.rules.specs.Records.{Record, srv, shortAt, resourceOf, srvData, addressRecords, recordsOf}
 use Rattle.rules.specs.Bytes.{bytesOf}
 use Rattle.rules.specs.declared.kinds.Kind.{Kind}
 use Rattle.rules.specs.declared.quantities.Port.{Port}
@@ -16,17 +16,12 @@ use Rattle.rules.specs.declared.quantities.Weight.{Weight}
 use Rattle.rules.proofs.Numbers.{length-be}
 use Rattle.wire.proofs.Parts.{front-count}
 use Rattle.heads.specs.Head.{headSize}
-use Rattle.hosts.specs.HostLines.{middleOf, IsHostLine, hostRecords}
+use Rattle.hosts.specs.HostLines.{middleOf, IsHostLine}
 use Rattle.hosts.specs.declared.hosts.HostLine.{HostLine}
 use Rattle.services.specs.ServiceLines.{serviceRecords}
 use Rattle.hosts.proofs.HostRecords.{lendable, same-read}
 use Rattle.records.proofs.Sequence.{rest-fits, rest-starts, rest-put, first-fits, room-of, put-of}
 use Rattle.values.proofs.Readiness.{ready-fields}
-
-pub mail-is : (dist : ℕ) (s : List ℕ) (h : HostLine) → IsHostLine Kind.Mail s h → dist ≡ shortAt (splitOn 58 s) 3 → hostRecords h 15 (be 2 dist) ≡ recordsOf 0 Kind.Mail (splitOn 58 s)
-unfolding recordsOf middleOf
-mail-is dist s h p e =
-    same-read Kind.Mail s h p (λ shared owner host address. resourceOf shared owner 15 (be 2 dist ++ host) ∷ addressRecords shared host address) ∙ rw e
 
 pub service-is : (port priority weight : ℕ) (s : List ℕ) (h : HostLine) → IsHostLine Kind.Service s h
     → port ≡ shortAt (splitOn 58 s) 3 → priority ≡ shortAt (splitOn 58 s) 4 → weight ≡ shortAt (splitOn 58 s) 5
@@ -36,31 +31,17 @@ service-is port priority weight s h p a b c =
     same-read Kind.Service s h p (λ shared owner host address. resourceOf shared owner 33 (srvData (record { 0 = priority }) (record { 0 = weight }) (record { 0 = port }) host) ∷ addressRecords shared host address)
     ∙ rw (a, b, c)
 
-pub mx-label : _≡_ {A = List ℕ} (109 ∷ 120 ∷ []) (middleOf Kind.Mail)
-unfolding middleOf mx
-mx-label = refl
-
 pub srv-label : _≡_ {A = List ℕ} (115 ∷ 114 ∷ 118 ∷ []) (middleOf Kind.Service)
 unfolding middleOf srv
 srv-label = refl
 
--- ---- mail and services
-
 module _ (shared : Shared) (owner host : List ℕ) (rs : List Record) (n : ℕ) where
-  pub mx-room : (dist : ℕ) → length (bytesOf (resourceOf shared owner 15 (be 2 dist ++ host) ∷ rs)) ≤ n → headSize shared owner + (2 + length host) ≤ n
-  mx-room dist k =
-      omega (arith, first-fits shared owner 15 rs n (be 2 dist ++ host) k, length-append (be 2 dist) host, length-be 2 dist)
-
   pub srv-room : (priority : Priority) (weight : Weight) (port : Port) → length (bytesOf (resourceOf shared owner 33 (srvData priority weight port host) ∷ rs)) ≤ n → headSize shared owner + (6 + length host) ≤ n
   unfolding srvData
   srv-room priority weight port k =
       let l : length (srvData priority weight port host) ≡ 6 + length host = simp (length-append, length-be) (omega arith) in
       omega (arith, first-fits shared owner 33 rs n (srvData priority weight port host) k)
 
-pub ruleset exchanger·laws = (needs, front-count, rest-fits, rest-starts, rest-put, mx-room)
-
 pub ruleset service·laws = (needs, front-count, rest-fits, rest-starts, rest-put, srv-room)
-
-pub ruleset mail-line·laws = (needs, lendable, ready-fields, room-of, put-of, mail-is, mx-label)
 
 pub ruleset service-line·laws = (needs, lendable, ready-fields, room-of, put-of, service-is, srv-label)

@@ -6,7 +6,7 @@ use Rattle.rules.specs.declared.quantities.Port.{Port}
 use Rattle.rules.specs.declared.quantities.Priority.{Priority}
 use Rattle.rules.specs.declared.quantities.Weight.{Weight}
 use Rattle.names.specs.Held.{heldName}
-use Rattle.hosts.specs.Hosts.{heldAddress}
+use Rattle.addresses.specs.HeldAddress.{heldAddress}
 use Rattle.hosts.specs.declared.hosts.HostLine.{HostLine}
 
 abbrev pub serviceRecords : HostLine → Priority → Weight → Port → List Record

@@ -1,2 +1,2 @@
-// The lines of mail and of services.
+// The line of a service.
 pub mod services;

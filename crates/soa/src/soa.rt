@@ -9,8 +9,8 @@ ghost use Rattle.buffer.specs.Put.{IsPut};
 ghost use Rattle.rules.specs.Bytes.{encode};
 ghost use Rattle.heads.specs.Head.{headSize};
 use buffer::put::put_bytes;
-use buffer::put::put_u32;
 use heads::heads::put_head;
+use integers::integers::put_u32;
 use rules::quantities::Shared;
 
 // The numbers of an SOA record, in the order of its data.

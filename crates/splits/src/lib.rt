@@ -1,3 +1,2 @@
-// A line stripped, and split into its fields.
+// A line split into its fields.
 pub mod splits;
-pub mod strips;

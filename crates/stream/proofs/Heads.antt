@@ -15,7 +15,7 @@ use Rattle.rules.specs.Records.{Record}
 use Rattle.rules.specs.Reading.{recordIn, ontoRecords, decodeOne, decodeFrom, decode}
 use Rattle.keys.proofs.Labels.{leb-is}
 use Rattle.stream.specs.Heads.{keyLength, dataLength, sizeAt, fits, headOf, keyAt, dataAt, recordAt}
-use Rattle.stream.specs.declared.head.Head.the-variants.{Whole, Broken}
+use Rattle.stream.specs.declared.Head.the-variants.{Whole, Broken}
 
 both-right : (a b : Bool) → (a && b) ≡ true → b ≡ true
 both-right true b e = e

@@ -11,8 +11,8 @@ use Rattle.rules.specs.Reading.{recordIn, ontoRecords}
 use Rattle.wire.proofs.Parts.{tail-lent}
 use Rattle.stream.specs.Heads.{sizeAt, headOf, keyAt, dataAt, recordAt}
 use Rattle.stream.specs.Spans.{part, IsSpan}
-use Rattle.stream.specs.declared.head.Head.{Head}
-use Rattle.stream.specs.declared.head.Head.the-variants.{Whole, Broken}
+use Rattle.stream.specs.declared.Head.{Head}
+use Rattle.stream.specs.declared.Head.the-variants.{Whole, Broken}
 use Rattle.stream.proofs.Heads.{IsWhole, whole-is, broken-is, decode-more}
 
 module _ (stream : List ℕ) (at : ℕ) (h : Head) (e : h ≡ headOf (take (length stream - at) (drop at stream))) (l : at < length stream) where

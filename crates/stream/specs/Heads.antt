@@ -8,8 +8,8 @@ use lib.Dec.{leb}
 use Rattle.rules.specs.Lists.{pick, fromLE}
 use Rattle.rules.specs.Records.{Record}
 use Rattle.rules.specs.Reading.{recordIn}
-use Rattle.stream.specs.declared.head.Head.{Head}
-use Rattle.stream.specs.declared.head.Head.the-variants.{Whole, Broken}
+use Rattle.stream.specs.declared.Head.{Head}
+use Rattle.stream.specs.declared.Head.the-variants.{Whole, Broken}
 
 -- the length of its key and of its data
 unfoldable pub keyLength : List ℕ → ℕ

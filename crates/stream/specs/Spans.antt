@@ -4,7 +4,7 @@ use mathlib.Core.Path.{_≡_}
 use mathlib.Core.List.{List}
 use lib.ListN.{length, take, drop}
 use Rattle.rules.specs.Reading.{recordIn, ontoRecords, decode}
-use Rattle.stream.specs.declared.head.Span.{Span}
+use Rattle.stream.specs.declared.Span.{Span}
 
 -- the bytes from one place up to another
 unfoldable pub part : List ℕ → ℕ → ℕ → List ℕ

@@ -7,7 +7,7 @@ ghost use Rattle.rules.specs.Lists.{le};
 ghost use Rattle.rules.specs.Reading.{replyNumber, replyNumbers};
 ghost use Rattle.buffer.specs.Put.{IsPut};
 ghost use Rattle.vahmizar.specs.Promises.{laid};
-use buffer::put::put_le;
+use integers::integers::put_le;
 use rules::replies::Reply;
 use rules::replies::reply_number;
 

@@ -1,2 +1,2 @@
-pub mod Valuing
 pub mod Readiness
+pub mod Valuing

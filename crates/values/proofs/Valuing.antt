@@ -18,9 +18,9 @@ use Rattle.codes.specs.Views.{timeRead, loRead}
 use Rattle.numbers.specs.declared.numbers.NumberRead.{NumberRead}
 use Rattle.codes.specs.declared.times.TimeRead.{TimeRead}
 use Rattle.codes.specs.declared.codes.LoRead.{LoRead}
-use Rattle.kinds.specs.Rows.{rowOf}
-use Rattle.kinds.specs.declared.kinds.Row.{Row}
-use Rattle.kinds.proofs.Rows.{count-most}
+use Rattle.rows.specs.Rows.{rowOf}
+use Rattle.rows.specs.declared.rows.Row.{Row}
+use Rattle.rows.proofs.Table.{count-most}
 
 -- ---- a value, or its default
 

@@ -1,6 +1,5 @@
+pub mod Compare
+pub mod Numbers
+pub mod Parts
 pub mod Steps
 pub mod Tables
-pub mod Parts
-pub mod Numbers
-pub mod Compare
-pub mod Find

@@ -3,7 +3,7 @@ ghost use mathlib.Core.Path.{_≡_};
 ghost use mathlib.Core.List.{map};
 ghost use Prim.Native.Nat.{_<_, _≤_};
 ghost use lib.ListN.{length};
-ghost use Rattle.rules.specs.Lists.{lower, fromBE, fromLE, sameBytes, beginsWith, has};
+ghost use Rattle.rules.specs.Lists.{lower, fromBE, fromLE, sameBytes, beginsWith};
 use crate::letters::lowered;
 
 // A byte as a number that sums of bytes fit.
@@ -76,18 +76,4 @@ pub fn same_lowered(key: &[u8], name: &[u8]) -> bool
         i += 1;
     }
     true
-}
-
-pub fn has_byte(text: &[u8], b: u8) -> bool
-    ensures { λ r. ⌜ r ≡ has b (now (text .entry)) ⌝ }
-{
-    let n = text.len();
-    let mut i: usize = 0;
-    while i < n {
-        if text[i] == b {
-            return true;
-        }
-        i += 1;
-    }
-    false
 }

@@ -17,14 +17,14 @@ use Rattle.rules.specs.declared.kinds.Kind.{Kind}
 use Rattle.rules.proofs.Tests.{pick-ok}
 use Rattle.rules.proofs.GoodLines.{Done, line-done}
 use Rattle.buffer.specs.Put.{IsPut}
-use Rattle.kinds.specs.Rows.{rowOf}
+use Rattle.rows.specs.Rows.{rowOf}
 use Rattle.splits.specs.Splits.{IsSplit}
-use Rattle.splits.specs.Strips.{IsStripped}
-use Rattle.kinds.specs.declared.kinds.Row.{Row}
+use Rattle.kinds.specs.Strips.{IsStripped}
+use Rattle.rows.specs.declared.rows.Row.{Row}
 use Rattle.splits.specs.declared.splits.Fields.{Fields}
 use Rattle.splits.specs.declared.splits.Span.{Span}
-use Rattle.kinds.proofs.Rows.{count-most}
-use Rattle.splits.proofs.Stripping.{parted-line}
+use Rattle.rows.proofs.Table.{count-most}
+use Rattle.kinds.proofs.Stripping.{parted-line}
 use Rattle.values.specs.Ready.{Ready}
 use Rattle.writer.specs.GoodLine.{GoodRest}
 

@@ -7,7 +7,7 @@ use borrow.Author.Needs.{needs}
 use borrow.Author.Tests.{eq-eqb, ne-eqb}
 use lib.ListN.{length, length-append}
 use Rattle.rules.specs.Lists.{pick, splitOn}
-use Rattle.rules.specs.Records.{ns, resourceOf, contactOf, hostmaster, joinedNames, soaData, soaShared, addressRecords, recordsOf}
+use Rattle.rules.specs.Records.{ns, resourceOf, contactOf, joinedNames, soaData, soaShared, addressRecords, recordsOf}
 use Rattle.rules.specs.Bytes.{encode, bytesOf}
 use Rattle.rules.specs.declared.kinds.Kind.{Kind}
 use Rattle.rules.specs.declared.quantities.Shared.{Shared}
@@ -27,10 +27,6 @@ use Rattle.zones.specs.ZoneLines.{zoneRecords}
 use Rattle.hosts.proofs.HostRecords.{lendable, same-read}
 use Rattle.records.proofs.Sequence.{rest-fits, rest-starts, rest-put, first-fits, room-of, put-of}
 use Rattle.names.proofs.Holding.{held-short, held-long}
-
-pub contact-room : (owner : List ℕ) (n : ℕ) → length (contactOf owner) ≤ 255 → n ≡ 255 → 11 + length owner ≤ n
-unfolding contactOf hostmaster
-contact-room owner n h e = omega (arith, length-append hostmaster owner)
 
 pub delegation-is : (s : List ℕ) (h : HostLine) → IsHostLine Kind.Delegation s h → hostRecords h 2 [] ≡ recordsOf 0 Kind.Delegation (splitOn 58 s)
 unfolding recordsOf middleOf

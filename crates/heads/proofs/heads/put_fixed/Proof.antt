@@ -1,6 +1,6 @@
 use borrow.Author.Needs.{needs}
 use Rattle.heads.specs.Head.{fixedSize}
-use Rattle.buffer.proofs.Puts.{then-three}
+use Rattle.buffer.proofs.Puts.{then-two}
 use Rattle.heads.proofs.Head.{fixed-is}
 use Rattle.heads.proofs.heads.put_fixed.Statement.{statement}
 use Rattle.heads.proofs.heads.put_fixed.Tie as tie
@@ -28,34 +28,18 @@ put-flag-requires c κs = search needs
 add-b : tie.Need-add-b
 add-b c = search needs
 
-sub-put-u32 : tie.Need-sub-put-u32
-sub-put-u32 c = search needs
+sub-put-times : tie.Need-sub-put-times
+sub-put-times c = search needs
 
-part-put-u32-start : tie.Need-part-put-u32-start
-part-put-u32-start c = search needs
+part-put-times-start : tie.Need-part-put-times-start
+part-put-times-start c = search needs
 
-part-put-u32-end : tie.Need-part-put-u32-end
-part-put-u32-end c = search needs
+part-put-times-end : tie.Need-part-put-times-end
+part-put-times-end c = search needs
 
-put-u32-requires : tie.Need-put-u32-requires
+put-times-requires : tie.Need-put-times-requires
 unfolding fixedSize
-put-u32-requires c κs = search needs
-
-add-c : tie.Need-add-c
-add-c c = search needs
-
-sub-put-u64 : tie.Need-sub-put-u64
-sub-put-u64 c = search needs
-
-part-put-u64-start : tie.Need-part-put-u64-start
-part-put-u64-start c = search needs
-
-part-put-u64-end : tie.Need-part-put-u64-end
-part-put-u64-end c = search needs
-
-put-u64-requires : tie.Need-put-u64-requires
-unfolding fixedSize
-put-u64-requires c κs = search needs
+put-times-requires c κs = search needs
 
 add-result : tie.Need-add-result
 add-result c = search needs
@@ -66,11 +50,10 @@ same-length c = search needs
 returns : tie.Need-returns
 unfolding fixedSize
 returns c =
-    let time = c .before .before in
-    let ttl = time .before .before .before .before in
-    let flag = ttl .before .before .before .before in
+    let times = c .before .before in
+    let flag = times .before .before .before .before in
     let type = flag .before .before .before .before .before in (
-      then-three _ _ _ _ (type .put-u16 .ensures .0) _ _ _ (flag .put-flag .ensures .0) _ _ _ (ttl .put-u32 .ensures .0) _ _ _ _ (time .put-u64 .ensures .0)
+      then-two _ _ _ _ (type .put-u16 .ensures .0) _ _ _ (flag .put-flag .ensures .0) _ _ _ _ (times .put-times .ensures .0)
           (fixed-is _ _ _ _ (flag .before .is-wild .ensures)),
       search needs,
     )
@@ -86,15 +69,10 @@ put-fixed-spec =
     is-wild-requires
     put-flag-requires
     add-b
-    sub-put-u32
-    part-put-u32-start
-    part-put-u32-end
-    put-u32-requires
-    add-c
-    sub-put-u64
-    part-put-u64-start
-    part-put-u64-end
-    put-u64-requires
+    sub-put-times
+    part-put-times-start
+    part-put-times-end
+    put-times-requires
     add-result
     same-length
     returns)

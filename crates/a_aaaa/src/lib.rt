@@ -1,0 +1,2 @@
+// Address records.
+pub mod a_aaaa;

@@ -1,0 +1,2 @@
+// The contacts of zones.
+pub mod contacts;

@@ -1,0 +1,2 @@
+// The name that x gives.
+pub mod given;

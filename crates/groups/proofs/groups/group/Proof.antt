@@ -1,0 +1,75 @@
+use Prim.Native.Nat.{_-_, _^_, _<_, _≤_}
+use lib.ListN.{length}
+use Rattle.numbers.proofs.HexDigit.{Hex}
+use Rattle.groups.proofs.Group.{anyCase, group·laws}
+use Rattle.groups.proofs.groups.group.Statement.{statement}
+use Rattle.groups.proofs.groups.group.Tie as tie
+
+abbrev Inv-loop : tie.InvT-loop
+Inv-loop text n value₀ i₀ value i = (i ≤ length text) × (value < 16 ^ i) × Hex anyCase text value i
+
+abbrev μ-loop : tie.MeasureT-loop
+μ-loop text n value₀ i₀ value i = length text - i
+
+returns : tie.Need-returns Inv-loop μ-loop
+returns c = search group·laws
+
+returns-2 : tie.Need-returns-2 Inv-loop μ-loop
+returns-2 c = search group·laws
+
+loop-holds : tie.Need-loop-holds Inv-loop μ-loop
+loop-holds c = search group·laws
+
+shared-slice-read-lowered : tie.Need-shared-slice-read-lowered Inv-loop μ-loop
+shared-slice-read-lowered c = search group·laws
+
+lowered-requires : tie.Need-lowered-requires Inv-loop μ-loop
+lowered-requires c κs = search group·laws
+
+hex-digit-requires : tie.Need-hex-digit-requires Inv-loop μ-loop
+hex-digit-requires c κs = search group·laws
+
+returns-3 : tie.Need-returns-3 Inv-loop μ-loop
+returns-3 c = search group·laws
+
+mul-value : tie.Need-mul-value Inv-loop μ-loop
+mul-value c = search group·laws
+
+add-value : tie.Need-add-value Inv-loop μ-loop
+add-value c = search group·laws
+
+add-i : tie.Need-add-i Inv-loop μ-loop
+add-i c = search group·laws
+
+loop-less : tie.Need-loop-less Inv-loop μ-loop
+loop-less c = search group·laws
+
+loop-again : tie.Need-loop-again Inv-loop μ-loop
+loop-again c = search group·laws
+
+cast-t12 : tie.Need-cast-t12 Inv-loop μ-loop
+cast-t12 c = search group·laws
+
+returns-4 : tie.Need-returns-4 Inv-loop μ-loop
+returns-4 c = search group·laws
+
+pub group-spec : {M : Type 1} → statement M
+group-spec =
+    tie.close
+    (tie.spec
+    Inv-loop
+    μ-loop
+    returns
+    returns-2
+    loop-holds
+    shared-slice-read-lowered
+    lowered-requires
+    hex-digit-requires
+    returns-3
+    mul-value
+    add-value
+    add-i
+    loop-less
+    loop-again
+    cast-t12
+    returns-4)

@@ -1,0 +1,90 @@
+// IPv6: eight groups of 1 to 4 hexadecimal digits joined by underscores.
+ghost use mathlib.Core.Path.{_≡_};
+ghost use Rattle.groups.specs.Groups.{groupRead, groupOf, groupsBytes, IsGroups};
+use numbers::hex::hex_digit;
+use pieces::pieces::piece_end;
+
+pub enum GroupRead {
+    Good(u16),
+    Bad,
+}
+
+fn group(text: &[u8]) -> GroupRead
+    ensures { λ r. ⌜ groupRead r ≡ groupOf (now (text .entry)) ⌝ }
+{
+    let n = text.len();
+    if n == 0 {
+        return GroupRead::Bad;
+    }
+    if 4 < n {
+        return GroupRead::Bad;
+    }
+    let mut value: u64 = 0;
+    let mut i: usize = 0;
+    while i < n {
+        let d = hex_digit(wire::letters::lowered(text[i]));
+        if 16 <= d {
+            return GroupRead::Bad;
+        }
+        value = value * 16 + d;
+        i += 1;
+    }
+    GroupRead::Good(value as u16)
+}
+
+pub struct GroupsRead {
+    pub groups: [u16; 8],
+    pub good: bool,
+}
+
+// Eight groups joined by single underscores.
+pub fn groups(text: &[u8]) -> GroupsRead
+    ensures { λ r. ⌜ IsGroups (now (text .entry)) r ⌝ }
+{
+    let mut groups = [0u16; 8];
+    let n = text.len();
+    let mut count: usize = 0;
+    let mut start: usize = 0;
+    // behind the last piece start is behind the text
+    while start <= n {
+        let end = piece_end(text, start, 95);
+        if 7 < count {
+            return GroupsRead {
+                groups,
+                good: false,
+            };
+        }
+        match group(&text[start..end]) {
+            GroupRead::Good(value) => {
+                groups[count] = value;
+                count += 1;
+                start = end + 1;
+            },
+            GroupRead::Bad => {
+                return GroupsRead {
+                    groups,
+                    good: false,
+                };
+            },
+        }
+    }
+    GroupsRead {
+        groups,
+        good: count == 8,
+    }
+}
+
+// Each group as two bytes, the high one first.
+pub fn address_bytes(groups: [u16; 8]) -> [u8; 16]
+    ensures { λ r. ⌜ r ≡ groupsBytes groups ⌝ }
+{
+    let mut bytes = [0u8; 16];
+    let mut i: usize = 0;
+    while i < 8 {
+        let g = groups[i];
+        bytes[2 * i] = (g / 256 % 256) as u8;
+        bytes[2 * i + 1] = (g % 256) as u8;
+        i += 1;
+    }
+    bytes
+}

@@ -1,0 +1,2 @@
+// IPv6: the groups of an address.
+pub mod groups;

@@ -1,0 +1,2 @@
+// Numbers put at the front of a lent buffer.
+pub mod integers;

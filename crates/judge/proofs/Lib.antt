@@ -1,0 +1,4 @@
+pub mod SeenRecords
+pub mod Meanings
+pub mod ByKeys
+pub mod Shapes

@@ -1,0 +1,83 @@
+-- The records before the first that can answer are passed over: none has a rank, so none is of any level.
+use mathlib.Core.Path.{_≡_, refl, _∙_, sym}
+use mathlib.Core.Bool.{Bool, true, false, not, _&&_, _||_}
+use mathlib.Core.List.{List, []}
+use Prim.Native.Nat.{ℕ, _-_, max}
+use native.Mathlib.Omega.{arith}
+use borrow.Author.Needs.{needs}
+use borrow.Author.Tests.{eq-eqb, ne-eqb, eqb-true}
+use lib.ListN.{take, drop}
+use lib.Dec.{eqb}
+use Rattle.rules.specs.Lists.{pick, sameBytes, valueOr}
+use Rattle.rules.specs.Questions.{ancestors}
+use Rattle.rules.specs.Reading.{recordIn, decode}
+use Rattle.stream.specs.declared.Span.{Span}
+use Rattle.stream.specs.Spans.{IsSpan}
+use Rattle.level.specs.Ranks.{among, rankIn, largest, seenRank}
+use Rattle.level.proofs.KeyRanks.{unrelated}
+use Rattle.level.proofs.Bests.{rest-whole, no-larger}
+use Rattle.locate.specs.Skips.{Skips, skipped}
+use Rattle.picks.proofs.Picking.{other-rank, not-picked}
+
+-- ---- one key
+
+module _ (name key : List ℕ) (from at next : ℕ) where
+  pub met : (from ≡ at → ⊥) → from ≡ skipped name key from at next
+  unfolding skipped pick
+  met n = rw (ne-eqb from at n)
+
+  module _ (e : from ≡ at) (t : Bool) (q : t ≡ (sameBytes key name || among key (ancestors name))) where
+    pub meets : t ≡ true → from ≡ skipped name key from at next
+    unfolding skipped pick
+    meets y = rw (eq-eqb from at e, ← q, y)
+
+    pub passes : t ≡ false → next ≡ skipped name key from at next
+    unfolding skipped pick
+    passes y = rw (eq-eqb from at e, ← q, y)
+
+pub ruleset behind·laws = (needs, met, meets, passes)
+
+-- ---- one record more
+
+max-zero : (n : ℕ) → max 0 n ≡ n
+max-zero n = omega arith
+
+module _ (name stream : List ℕ) where
+  pub skips-none : Skips name stream 0
+  skips-none = record { inside = omega arith; rest = λ w. w; ranks = λ here moment w. refl; picks = λ type here moment best ordinal w z. refl }
+
+  module _ (at : ℕ) (s : Skips name stream at) (span : Span) (i : IsSpan stream at span) where
+    abbrev key : List ℕ
+    key = take (span .middle - span .start) (drop (span .start) stream)
+
+    abbrev rdata : List ℕ
+    rdata = take (span .next - span .middle) (drop (span .middle) stream)
+
+    module _ (u : (sameBytes key name || among key (ancestors name)) ≡ false) where
+      no-rank : (here : List ℕ) (moment : ℕ) → 0 ≡ rankIn name here moment (recordIn key rdata)
+      no-rank here moment = unrelated name here moment key rdata false (sym u) refl
+
+      past : Skips name stream (span .next)
+      past = record {
+        inside = i .inside;
+        rest = λ w. rest-whole stream at span i (s .rest w);
+        ranks = λ here moment w.
+            let m = no-larger name here moment stream 0 at (largest (seenRank name here moment) (valueOr [] (decode stream))) (max-zero _ ∙ s .ranks here moment w) (s .rest w) span i 0 (no-rank here moment) (omega arith) in
+            sym (max-zero _) ∙ m;
+        picks = λ type here moment best ordinal w z.
+            not-picked type name here moment best stream at ordinal _ (s .picks type here moment best ordinal w z) (s .rest w) span i false
+            (other-rank type name here moment best key rdata 0 (no-rank here moment) (λ e. z (sym e))) refl;
+      }
+
+pub skips-more : (name stream : List ℕ) (from at : ℕ) (span : Span) (r : ℕ) → Skips name stream from → IsSpan stream at span
+    → r ≡ skipped name (take (span .middle - span .start) (drop (span .start) stream)) from at (span .next) → Skips name stream r
+unfolding skipped pick
+skips-more name stream from at span r s i e = go (eqb from at) (sameBytes key′ name || among key′ (ancestors name)) refl refl e
+  where
+    key′ : List ℕ
+    key′ = take (span .middle - span .start) (drop (span .start) stream)
+
+    go : (a b : Bool) → eqb from at ≡ a → (sameBytes key′ name || among key′ (ancestors name)) ≡ b → r ≡ pick (a && not b) (span .next) from → Skips name stream r
+    go false b p q e = rw e s
+    go true true p q e = rw e s
+    go true false p q e = rw e (past name stream at (rw (eqb-true from at p) at s) span i q)

@@ -1,0 +1,35 @@
+-- The client's location over a stream that may not be whole records.
+use Prim.Native.Nat.{ℕ}
+use mathlib.Core.List.{List}
+use mathlib.Core.Option.{Option, none, some}
+use Rattle.rules.specs.Records.{Record, loBytes}
+use Rattle.rules.specs.Questions.{Best, better, bestOf, locationOf}
+use Rattle.locate.specs.declared.Located.{Located}
+use Rattle.locate.specs.declared.Judged.{Judged}
+
+unfoldable pub betterIn : List ℕ → Best → Option Record → Option Best
+betterIn client best none = none
+betterIn client best (some r) = some (better client best r)
+
+unfoldable pub locatedIn : List ℕ → Option (List Record) → Option (List ℕ)
+locatedIn client none = none
+locatedIn client (some rs) = some (locationOf client rs)
+
+-- the same from the best so far on
+unfoldable pub locatedFrom : List ℕ → Best → Option (List Record) → Option (List ℕ)
+locatedFrom client best none = none
+locatedFrom client best (some rs) = some (bestOf client best rs .lo)
+
+-- what the code's answers mean
+unfoldable pub bestSeen : Located → Option Best
+bestSeen Located.Broken = none
+bestSeen (Located.Best lo least) = some (record { lo = loBytes lo; atLeast = least })
+
+unfoldable pub judgedLo : Judged → Option (List ℕ)
+judgedLo Judged.Broken = none
+judgedLo (Judged.Whole lo from) = some (loBytes lo)
+
+-- where the records that can answer begin
+unfoldable pub fromIn : Judged → ℕ
+fromIn Judged.Broken = 0
+fromIn (Judged.Whole lo from) = from

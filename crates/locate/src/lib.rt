@@ -1,0 +1,117 @@
+// The pass that judges a stream and finds the client's location.
+ghost use mathlib.Core.Path.{_≡_};
+ghost use mathlib.Core.List.{map};
+ghost use Rattle.rules.specs.Lists.{lower};
+ghost use Rattle.rules.specs.Records.{loBytes};
+ghost use Rattle.rules.specs.Questions.{matches};
+ghost use Rattle.rules.specs.Reading.{recordIn, decode};
+ghost use Rattle.locate.specs.Locations.{bestSeen, betterIn, judgedLo, locatedIn, fromIn};
+ghost use Rattle.locate.specs.Skips.{Skips, skipped};
+use judge::Seen;
+use judge::record_in;
+use level::is_related;
+use rules::quantities::Lo;
+use stream::span_at;
+use wire::get::begins_with;
+
+// The location of the longest prefix so far, and how long a better prefix is at least; or that a record is malformed.
+enum Located {
+    Broken,
+    Best { lo: Lo, least: usize },
+}
+
+// Whether a stream is whole records, and then the client's location, and a place before which no record can answer.
+pub enum Judged {
+    Whole(Lo, usize),
+    Broken,
+}
+
+// Whether a client is in a prefix. Only one of 4 bytes can be in any but the empty prefix.
+fn matches(client: &[u8], prefix: &[u8]) -> bool
+    ensures { λ r. ⌜ r ≡ matches (now (client .entry)) (now (prefix .entry)) ⌝ }
+{
+    if client.len() != 4 {
+        return prefix.len() == 0;
+    }
+    begins_with(prefix, client)
+}
+
+// The better of the location so far and that of one record.
+fn better_in(client: &[u8], lo: Lo, least: usize, key: &[u8], rdata: &[u8]) -> Located
+    ensures { λ r. ⌜ bestSeen r ≡ betterIn (now (client .entry)) (record { lo = loBytes lo; atLeast = least }) (recordIn (now (key .entry)) (now (rdata .entry))) ⌝ }
+{
+    match record_in(key, rdata) {
+        Seen::Broken => Located::Broken,
+        Seen::Resource {
+            wild: _,
+            rtype: _,
+            shared: _,
+            fixed: _,
+        } => Located::Best { lo, least },
+        Seen::Location(found) => {
+            if !matches(client, &key[2..]) {
+                return Located::Best { lo, least };
+            }
+            let long = key.len() - 2;
+            if long < least {
+                return Located::Best { lo, least };
+            }
+            Located::Best {
+                lo: found,
+                least: long + 1,
+            }
+        }
+    }
+}
+
+// Behind a record that can't answer for a name, as long as none that can has been met.
+fn behind(name: &[u8], key: &[u8], from: usize, at: usize, next: usize) -> usize
+    ensures { λ r. ⌜ r ≡ skipped (map lower (now (name .entry))) (now (key .entry)) from at next ⌝ }
+{
+    if from != at {
+        return from;
+    }
+    if is_related(name, key) {
+        return from;
+    }
+    next
+}
+
+// Every record is read, also behind the last location: a stream is judged whole before anything of it is answered.
+pub fn judge_and_locate(stream: &[u8], client: &[u8], name: &[u8]) -> Judged
+    ensures { λ r. ⌜ judgedLo r ≡ locatedIn (now (client .entry)) (decode (now (stream .entry))) ⌝ }
+    ensures { λ r. ⌜ Skips (map lower (now (name .entry))) (now (stream .entry)) (fromIn r) ⌝ }
+{
+    let n = stream.len();
+    let mut lo = Lo::Every;
+    let mut least: usize = 0;
+    let mut from: usize = 0;
+    let mut at: usize = 0;
+    while at < n {
+        let span = span_at(stream, at);
+        let start = span.start;
+        let middle = span.middle;
+        let next = span.next;
+        match better_in(
+            client,
+            lo,
+            least,
+            &stream[start..middle],
+            &stream[middle..next],
+        ) {
+            Located::Broken => {
+                return Judged::Broken;
+            }
+            Located::Best {
+                lo: best,
+                least: most,
+            } => {
+                lo = best;
+                least = most;
+                from = behind(name, &stream[start..middle], from, at, next);
+                at = next;
+            }
+        }
+    }
+    Judged::Whole(lo, from)
+}

@@ -1,0 +1,40 @@
+-- The laws of mail.
+use mathlib.Core.Path.{_≡_, refl, _∙_}
+use mathlib.Core.List.{List, [], _∷_, _++_}
+use Prim.Native.Nat.{ℕ, _+_, _≤_}
+use native.Mathlib.Omega.{arith}
+use borrow.Author.Needs.{needs}
+use lib.ListN.{length, length-append}
+use Rattle.rules.specs.Lists.{splitOn, be}
+use Rattle.rules.specs.Records.{Record, mx, shortAt, resourceOf, addressRecords, recordsOf}
+use Rattle.rules.specs.Bytes.{bytesOf}
+use Rattle.rules.specs.declared.kinds.Kind.{Kind}
+use Rattle.rules.specs.declared.quantities.Shared.{Shared}
+use Rattle.rules.proofs.Numbers.{length-be}
+use Rattle.wire.proofs.Parts.{front-count}
+use Rattle.heads.specs.Head.{headSize}
+use Rattle.hosts.specs.HostLines.{middleOf, IsHostLine, hostRecords}
+use Rattle.hosts.specs.declared.hosts.HostLine.{HostLine}
+use Rattle.hosts.proofs.HostRecords.{lendable, same-read}
+use Rattle.records.proofs.Sequence.{rest-fits, rest-starts, rest-put, first-fits, room-of, put-of}
+use Rattle.values.proofs.Readiness.{ready-fields}
+
+pub mail-is : (dist : ℕ) (s : List ℕ) (h : HostLine) → IsHostLine Kind.Mail s h → dist ≡ shortAt (splitOn 58 s) 3 → hostRecords h 15 (be 2 dist) ≡ recordsOf 0 Kind.Mail (splitOn 58 s)
+unfolding recordsOf middleOf
+mail-is dist s h p e =
+    same-read Kind.Mail s h p (λ shared owner host address. resourceOf shared owner 15 (be 2 dist ++ host) ∷ addressRecords shared host address) ∙ rw e
+
+pub mx-label : _≡_ {A = List ℕ} (109 ∷ 120 ∷ []) (middleOf Kind.Mail)
+unfolding middleOf mx
+mx-label = refl
+
+-- ---- mail and services
+
+module _ (shared : Shared) (owner host : List ℕ) (rs : List Record) (n : ℕ) where
+  pub mx-room : (dist : ℕ) → length (bytesOf (resourceOf shared owner 15 (be 2 dist ++ host) ∷ rs)) ≤ n → headSize shared owner + (2 + length host) ≤ n
+  mx-room dist k =
+      omega (arith, first-fits shared owner 15 rs n (be 2 dist ++ host) k, length-append (be 2 dist) host, length-be 2 dist)
+
+pub ruleset exchanger·laws = (needs, front-count, rest-fits, rest-starts, rest-put, mx-room)
+
+pub ruleset mail-line·laws = (needs, lendable, ready-fields, room-of, put-of, mail-is, mx-label)

@@ -1,0 +1,2 @@
+// The line of mail.
+pub mod mail;

@@ -1,0 +1,3 @@
+pub mod Dotted
+pub mod Octet
+pub mod Taken

@@ -1,0 +1,2 @@
+// IPv4: the numbers of an address or a prefix.
+pub mod octets;

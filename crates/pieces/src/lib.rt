@@ -1,0 +1,2 @@
+// A byte looked for in a text.
+pub mod pieces;
