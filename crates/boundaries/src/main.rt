@@ -2,10 +2,10 @@
 // line, field and bytes, and on 0 the records in hexadecimal digits. A word that is a number up to 65,536 is the room for the files behind
 // it; it is 65,536 at the start.
 ghost use Prim.Native.Nat.{_≤_};
+use compiled::compiled::compile_into;
 use console::arguments::argument;
-use console::compiled::compile_into;
 use console::files::read_file;
-use console::hex::print_hex;
+use hexadecimal::hex::print_hex;
 use libc::STDOUT_FILENO;
 use numbers::numbers::NumberRead;
 use numbers::numbers::number;

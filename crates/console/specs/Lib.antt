@@ -1,3 +1,1 @@
-pub mod Answers
-pub mod Words
-pub mod Hex
+pub mod Fronts

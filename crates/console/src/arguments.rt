@@ -1,7 +1,7 @@
 // The program's arguments.
 ghost use mathlib.Core.Path.{_≡_};
 ghost use Rattle.rules.specs.Fields.{numberOf, largestLong};
-ghost use Rattle.console.specs.Answers.{IsFront, serialRead};
+ghost use Rattle.console.specs.Fronts.{IsFront, serialRead};
 use crate::files::Front;
 use libc::STDERR_FILENO;
 use numbers::numbers::NumberRead;

@@ -3,11 +3,11 @@
 // can't be read or is refused, and nothing where all was asked: a program has no exit status of its own choice.
 mod print;
 
+use compiled::compiled::compile_file;
+use compiled::compiled::records_buffer;
 use console::arguments::SerialRead;
 use console::arguments::argument;
 use console::arguments::serial;
-use console::compiled::compile_file;
-use console::compiled::records_buffer;
 use console::files::read_file;
 use libc::STDERR_FILENO;
 use print::print_answers;

@@ -2,8 +2,7 @@
 ghost use Prim.Native.Nat.{_+_, _≤_};
 ghost use lib.ListN.{length};
 ghost use Rattle.questions.specs.Places.{Inside};
-use console::hex::print_hex;
-use console::words::print_words;
+use hexadecimal::hex::print_hex;
 use libc::STDERR_FILENO;
 use libc::STDOUT_FILENO;
 use questions::questions::LineReply;
@@ -11,6 +10,7 @@ use questions::questions::answer_line;
 use rules::quantities::Ttl;
 use rules::replies::Reply;
 use rules::replies::reply_number;
+use words::words::print_words;
 
 fn print_record(records: &[u8], rtype: u16, lifetime: Ttl, place: usize, size: usize)
     requires { ⌜ place + size ≤ length (now records) ⌝ }

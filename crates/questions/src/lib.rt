@@ -1,6 +1,6 @@
 // A question as a line of text: moment, client, type and name, parted by single spaces. specs/Questions.antt says which question a line is.
-pub mod asked;
-pub mod askers;
-pub mod moments;
+mod asked;
+mod askers;
+mod moments;
 pub mod questions;
 pub mod spans;

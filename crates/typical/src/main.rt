@@ -1,10 +1,10 @@
 // typical FILE SERIAL: the records of a file, byte for byte, on standard output. A refusal goes to standard error: a program has no
 // exit status of its own choice.
+use compiled::compiled::compile_file;
+use compiled::compiled::records_buffer;
 use console::arguments::SerialRead;
 use console::arguments::argument;
 use console::arguments::serial;
-use console::compiled::compile_file;
-use console::compiled::records_buffer;
 use libc::STDERR_FILENO;
 use libc::STDOUT_FILENO;
 

@@ -1,0 +1,2 @@
+// Bytes as hexadecimal digits, as text and printed.
+pub mod hex;

@@ -1,0 +1,2 @@
+// The words of an answer's number, as text and printed.
+pub mod words;
