@@ -7,14 +7,15 @@ use Prim.Native.Nat.{ℕ, zero, suc, _+_, _-_, _≤_}
 use native.Mathlib.Omega.{arith}
 use lib.Dec.{leb}
 use lib.ListN.{length, take, drop, getElem?, length-append, length-take, length-drop}
-use Rattle.rules.specs.Lists.{keep, fromLE}
+use Rattle.rules.specs.Lists.{fromLE}
 use Rattle.rules.specs.Names.{isWire}
 use Rattle.rules.specs.Records.{Record}
 use Rattle.rules.specs.Bytes.{dataOf, rdataOf, size, sizeOfAll}
-use Rattle.rules.specs.Questions.{Question, Placed, placedFrom, wildcardOf, ancestors, firstFull, level, answers}
+use Rattle.rules.specs.Questions.{Question, Placed, placedFrom, answers}
 use Rattle.rules.specs.Reading.{recordIn, ontoRecords, decodeOne, decodeFrom, decode, replyOf, replyFrom, replyDecoded, momentEnd, isClient, askReply}
 use Rattle.rules.proofs.Tests.{pick-ok, tests}
-use Rattle.rules.proofs.Lists.{OnSome, All, nil, cons, all-keep, all-map, all-at, all-head, all-tail}
+use Rattle.rules.proofs.Lists.{OnSome, All, nil, cons, all-at, all-head, all-tail}
+use Rattle.rules.proofs.Meaning.{answers-all}
 use Rattle.judge.proofs.Shapes.{Shape, shape, size-is}
 use Rattle.rules.specs.declared.quantities.Ttl.{Ttl}
 use Rattle.rules.specs.declared.replies.Reply.{Reply}
@@ -67,20 +68,6 @@ placed-ends at n [] h = nil
 placed-ends at n (r ∷ rs) h =
     let e : Ends n (record { rec = r; end = at + size r }) = (omega arith, omega (arith, record-ends r)) in cons e (placed-ends (at + size r) n rs (omega arith))
 
-first-ends : (n : ℕ) {ls : List (List Placed)} → All (All (Ends n)) ls → All (Ends n) (firstFull ls)
-unfolding firstFull
-first-ends n nil = nil
-first-ends n (cons {x = []} h a) = first-ends n a
-first-ends n (cons {x = p ∷ ps} h a) = h
-
-level-ends : (n : ℕ) (name : List ℕ) {ps : List Placed} → All (Ends n) ps → All (Ends n) (level name ps)
-unfolding level
-level-ends n name {ps} a = first-ends n (cons (all-keep _ a) (all-map (λ m. keep (λ p. wildcardOf m (p .rec)) ps) (ancestors name) (λ m. all-keep _ a)))
-
-answers-end : (n : ℕ) (q : Question) {ps : List Placed} → All (Ends n) ps → All (Ends n) (answers q ps)
-unfolding answers
-answers-end n q a = all-keep _ (level-ends n _ (all-keep _ a))
-
 -- ---- and so does a reply
 
 module _ (stream : List ℕ) (q : Question) (ordinal : ℕ) where
@@ -94,7 +81,7 @@ module _ (stream : List ℕ) (q : Question) (ordinal : ℕ) where
   decoded-inside none h = tt
   decoded-inside (some rs) h =
       reply-inside (getElem? (answers q (placedFrom 0 rs)) ordinal)
-      (all-at ordinal (answers-end (length stream) q (placed-ends 0 (length stream) rs (omega (arith, h)))))
+      (all-at ordinal (answers-all q (placed-ends 0 (length stream) rs (omega (arith, h)))))
 
   pub inside : Inside stream (askReply stream q ordinal)
   unfolding askReply decode

@@ -57,7 +57,7 @@ level-all : {P : Placed → Type 0} (n : List ℕ) {ps : List Placed} → All P 
 unfolding level
 level-all n {ps} a = first-all (cons (all-keep _ a) (all-map (λ m. keep (λ p. wildcardOf m (p .rec)) ps) (ancestors n) (λ m. all-keep _ a)))
 
-answers-all : {P : Placed → Type 0} (q : Question) {ps : List Placed} → All P ps → All P (answers q ps)
+pub answers-all : {P : Placed → Type 0} (q : Question) {ps : List Placed} → All P ps → All P (answers q ps)
 unfolding answers
 answers-all q a = all-keep _ (level-all _ (all-keep _ a))
 

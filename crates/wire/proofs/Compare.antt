@@ -89,5 +89,3 @@ module _ (key name : List ℕ) (i : ℕ) (e : sameBytes (drop i key) (drop i (ma
 
   pub same-end-lowered : length key ≤ i → true ≡ sameBytes key (map lower name)
   same-end-lowered h = same-end key (map lower name) i e h as-long
-
-pub ruleset same-lowered·laws = (needs, other-length-lowered, same-next-lowered, differs-lowered, same-end-lowered)

@@ -1,10 +1,8 @@
 // Readers of bytes: numbers and comparisons.
 ghost use mathlib.Core.Path.{_≡_};
-ghost use mathlib.Core.List.{map};
 ghost use Prim.Native.Nat.{_<_, _≤_};
 ghost use lib.ListN.{length};
-ghost use Rattle.rules.specs.Lists.{lower, fromBE, fromLE, sameBytes, beginsWith};
-use crate::letters::lowered;
+ghost use Rattle.rules.specs.Lists.{fromBE, fromLE, beginsWith};
 
 // A byte as a number that sums of bytes fit.
 pub fn wide(x: u8) -> u64
@@ -53,24 +51,6 @@ pub fn begins_with(prefix: &[u8], bytes: &[u8]) -> bool
     let mut i: usize = 0;
     while i < n {
         if prefix[i] != bytes[i] {
-            return false;
-        }
-        i += 1;
-    }
-    true
-}
-
-// Whether a key is a name with its letters lowered.
-pub fn same_lowered(key: &[u8], name: &[u8]) -> bool
-    ensures { λ r. ⌜ r ≡ sameBytes (now (key .entry)) (map lower (now (name .entry))) ⌝ }
-{
-    let n = key.len();
-    if n != name.len() {
-        return false;
-    }
-    let mut i: usize = 0;
-    while i < n {
-        if key[i] != lowered(name[i]) {
             return false;
         }
         i += 1;
