@@ -73,7 +73,7 @@ fn no_question() -> QuestionRead
     }
 }
 
-pub fn question(line: &[u8]) -> QuestionRead
+fn question(line: &[u8]) -> QuestionRead
     ensures { λ r. ⌜ IsQuestion (questionOf (now (line .entry))) r ⌝ }
 {
     let spans = split_line(line);

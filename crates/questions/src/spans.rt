@@ -36,7 +36,7 @@ fn no_spans() -> Spans
     }
 }
 
-pub fn split_line(line: &[u8]) -> Spans
+pub(crate) fn split_line(line: &[u8]) -> Spans
     ensures { λ r. ⌜ IsSpans (now (line .entry)) r ⌝ }
 {
     let n = line.len();
