@@ -20,21 +20,7 @@ const HEAD: usize = 2_048;
 const SOURCES: u64 = 300;
 
 /// The typical file of the program's manual.
-const TYPICAL: &[u8] = b"=lion.heaven.af.mil:1.2.3.4
-@heaven.af.mil:1.2.3.4
-@3.2.1.in-addr.arpa:1.2.3.4
-
-=tiger.heaven.af.mil:1.2.3.5
-.heaven.af.mil:1.2.3.5:a
-.3.2.1.in-addr.arpa:1.2.3.5:a
-
-=bear.heaven.af.mil:1.2.3.6
-.heaven.af.mil:1.2.3.6:b
-.3.2.1.in-addr.arpa:1.2.3.6:b
-
-=cheetah.heaven.af.mil:1.2.3.248
-=panther.heaven.af.mil:1.2.3.249
-";
+const TYPICAL: &[u8] = include_bytes!("../../../crates/typical/data/typical");
 
 #[test]
 fn records_are_those_of_tinydns_data() {
