@@ -18,7 +18,7 @@ fn print_after_space(n: u64) {
 
 fn print_answer(answer: Answer) {
     let fault = answer.fault;
-    print_after_space(rules::faults::number(fault));
+    print_after_space(refusals::faults::number(fault));
     print_after_space(answer.line as u64);
     print_after_space(answer.field as u64);
     print_after_space(answer.bytes as u64);

@@ -1,14 +1,12 @@
 // The records of a file.
-ghost use mathlib.Core.Path.{_≡_};
-ghost use lib.ListN.{length};
 ghost use Rattle.console.specs.Fronts.{IsFront};
 ghost use Rattle.compiled.specs.Answers.{IsRecords};
 use crate::reports::refuse_source;
 use compiler::compile::compile;
 use console::files::Front;
 use console::files::read_file;
+use refusals::faults::is_done;
 use rules::faults::Answer;
-use rules::faults::is_done;
 
 // What compiling answered, and the records that it left at the front of the buffer.
 pub struct Compiled {
@@ -34,14 +32,6 @@ pub fn compile_into(source: &[u8], serial: u32, out: &mut [u8]) -> Compiled
         len: answer.bytes,
     };
     Compiled { answer, front }
-}
-
-// 3,145,728 zeros: room for the records of any file of 65,536 bytes. The most that such a file gives is 2,883,594 bytes: of all lines the
-// line `.` gives the most for its length, 88 bytes for 2 with the line's end.
-pub fn records_buffer() -> [u8; 3145728]
-    ensures { λ r. ⌜ 3145728 ≡ length r ⌝ }
-{
-    [0; 3145728]
 }
 
 // The file of this path compiled into the buffer that is lent, where it has at most 65,536 bytes. Where it can't be read or is refused,

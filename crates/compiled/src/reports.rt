@@ -1,7 +1,7 @@
 // A refused source, as a line of standard error.
 use libc::STDERR_FILENO;
+use refusals::faults::number;
 use rules::faults::Answer;
-use rules::faults::number;
 use words::words::print_words;
 
 // The place: path, line and field.

@@ -2,9 +2,9 @@
 ghost use Rattle.compiler.specs.Compiled.{IsCompiled};
 use crate::judge::judge;
 use crate::write::write_all;
+use refusals::faults::is_done;
 use rules::faults::Answer;
 use rules::faults::Fault;
-use rules::faults::is_done;
 
 // Nothing is written before the last line has been judged and the room is known to be enough.
 pub fn compile(source: &[u8], serial: u32, out: &mut [u8]) -> Answer

@@ -7,9 +7,9 @@ ghost use Rattle.compiler.specs.Judged.{judgedFrom};
 ghost use Rattle.compiler.specs.Sized.{IsSized};
 use crate::ends::line_length;
 use lines::judge::line_fault;
+use refusals::faults::is_done;
 use rules::faults::Answer;
 use rules::faults::Fault;
-use rules::faults::is_done;
 use writer::line::put_line;
 
 // The first fault of a line, with its field, and how many bytes its records take; a bad line takes none.

@@ -37,7 +37,7 @@ fn at_most_256(n: usize) -> usize
 }
 
 // The digits of the first 256 bytes, or of all where there are fewer.
-pub fn hex_text(bytes: &[u8]) -> HexText
+fn hex_text(bytes: &[u8]) -> HexText
     ensures { λ r. ⌜ IsHexText (now (bytes .entry)) r ⌝ }
 {
     let mut digits = [0u8; 512];

@@ -69,38 +69,38 @@ pub ruleset fields·laws = (needs, begin-fields, all-good, next-field, first-fau
 
 -- ---- a kind
 
-module _ (s : List ℕ) (kind : Kind) (row : Row) (e : row ≡ rowOf kind) where
-  rows : row .count ≡ fieldCount kind
+module _ (s : List ℕ) (kind : Kind) (fields : Fields) (p : IsSplit s kind fields) where
+  rows : fields .row .count ≡ fieldCount kind
   unfolding rowOf
-  rows = ap (λ (r : Row). r .count) e
+  rows = ap (λ (r : Row). r .count) (p .row)
 
-  pub row-most : row .count ≤ 11
+  pub row-most : fields .row .count ≤ 11
   row-most = omega (arith, rows, count-most kind)
 
-  pub unknown : row .count ≡ 0 → record { fault = Fault.UnknownKind; field = 0 } ≡ kindFault kind (splitOn 58 s)
+  pub unknown : fields .row .count ≡ 0 → record { fault = Fault.UnknownKind; field = 0 } ≡ kindFault kind (splitOn 58 s)
   unfolding kindFault wholeLine pick
   unknown z = rw (eq-eqb (fieldCount kind) 0 (sym rows ∙ z))
 
-  module _ (fields : Fields) (some : row .count ≡ 0 → ⊥) (p : IsSplit s (row .count) fields) where
+  module _ (some : fields .row .count ≡ 0 → ⊥) where
     known : kindFault kind (splitOn 58 s) ≡ pick (ltb (fieldCount kind) (length (splitOn 58 s))) (wholeLine Fault.TooManyFields) (thenFault (fieldsFault 0 (meanings kind) (splitOn 58 s)) (joinedFault (joinedNames kind (splitOn 58 s))))
     unfolding kindFault pick
     known = rw (ne-eqb (fieldCount kind) 0 (λ z. some (rows ∙ z)))
 
     pub too-many : not (fields .fits) ≡ true → record { fault = Fault.TooManyFields; field = 0 } ≡ kindFault kind (splitOn 58 s)
     unfolding wholeLine pick
-    too-many t = sym (known ∙ rw (lt-ltb (fieldCount kind) (length (splitOn 58 s)) (omega (arith, rows, leb-false (length (splitOn 58 s)) (row .count) (sym (p .says) ∙ not-true (fields .fits) t)))))
+    too-many t = sym (known ∙ rw (lt-ltb (fieldCount kind) (length (splitOn 58 s)) (leb-false (length (splitOn 58 s)) (fieldCount kind) (sym (p .says) ∙ not-true (fields .fits) t))))
 
     pub spans-of : not (fields .fits) ≡ false → FieldsOf s (fields .spans)
     spans-of t = p .each (not-false (fields .fits) t)
 
-    module _ (fits : not (fields .fits) ≡ false) (first : LineFault) (done : Bool) (f : first ≡ fieldsFault 0 (map meaningOf (take (row .count) (row .meanings))) (splitOn 58 s)) (d : done ≡ isDone (first .fault)) where
+    module _ (fits : not (fields .fits) ≡ false) (first : LineFault) (done : Bool) (f : first ≡ fieldsFault 0 (map meaningOf (take (fields .row .count) (fields .row .meanings))) (splitOn 58 s)) (d : done ≡ isDone (first .fault)) where
       first-is : first ≡ fieldsFault 0 (meanings kind) (splitOn 58 s)
       unfolding rowOf
-      first-is = f ∙ ap (λ (r : Row). fieldsFault 0 (map meaningOf (take (r .count) (r .meanings))) (splitOn 58 s)) e ∙ ap (λ (ms : List Meaning). fieldsFault 0 ms (splitOn 58 s)) (codes-mean kind)
+      first-is = f ∙ ap (λ (r : Row). fieldsFault 0 (map meaningOf (take (r .count) (r .meanings))) (splitOn 58 s)) (p .row) ∙ ap (λ (ms : List Meaning). fieldsFault 0 ms (splitOn 58 s)) (codes-mean kind)
 
       enough : kindFault kind (splitOn 58 s) ≡ pick done (joinedFault (joinedNames kind (splitOn 58 s))) first
       unfolding thenFault pick
-      enough = known ∙ rw (le-ltb (fieldCount kind) (length (splitOn 58 s)) (omega (arith, rows, leb-true (length (splitOn 58 s)) (row .count) (sym (p .says) ∙ not-false (fields .fits) fits))), ← first-is, ← d)
+      enough = known ∙ rw (le-ltb (fieldCount kind) (length (splitOn 58 s)) (leb-true (length (splitOn 58 s)) (fieldCount kind) (sym (p .says) ∙ not-false (fields .fits) fits)), ← first-is, ← d)
 
       pub field-first : done ≡ false → first ≡ kindFault kind (splitOn 58 s)
       unfolding pick

@@ -14,11 +14,10 @@ use joined::joined::joined_fault;
 use kinds::kinds::is_ignored;
 use kinds::kinds::kind_of;
 use kinds::strips::stripped;
+use refusals::faults::is_done;
 use rows::rows::meaning_of;
-use rows::rows::row_of;
 use rules::faults::Fault;
 use rules::faults::LineFault;
-use rules::faults::is_done;
 use rules::kinds::Kind;
 use splits::splits::Span;
 use splits::splits::field;
@@ -62,7 +61,8 @@ fn kind_fault(rest: &[u8], kind: Kind) -> LineFault
     requires { ⌜ length (now rest) ≤ 1024 ⌝ }
     ensures { λ r. ⌜ r ≡ kindFault kind (splitOn 58 (now (rest .entry))) ⌝ }
 {
-    let row = row_of(kind);
+    let fields = split(rest, kind);
+    let row = fields.row;
     let count = row.count;
     if count == 0 {
         return LineFault {
@@ -70,7 +70,6 @@ fn kind_fault(rest: &[u8], kind: Kind) -> LineFault
             field: 0,
         };
     }
-    let fields = split(rest, count);
     if !fields.fits {
         return LineFault {
             fault: Fault::TooManyFields,

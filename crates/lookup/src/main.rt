@@ -1,27 +1,30 @@
 // lookup DATA QUESTIONS [SERIAL]: compiles the file DATA and prints the answers to the questions of the file QUESTIONS, one a line: moment,
 // client, type and name. Standard output has each question and below it its records, or none, or its refusal. Standard error has whatever
-// can't be read or is refused, and nothing where all was asked: a program has no exit status of its own choice.
+// can't be read, is refused or can't be written, and nothing where all was done: a program has no exit status of its own choice.
 mod print;
 
 use compiled::compiled::compile_file;
-use compiled::compiled::records_buffer;
 use console::arguments::SerialRead;
 use console::arguments::argument;
 use console::arguments::serial;
 use console::files::read_file;
 use libc::STDERR_FILENO;
+use pieces::pieces::piece_end;
 use print::print_answers;
-use questions::spans::line_end;
+use room::records_buffer;
 
-// Each line of the questions.
+// Each line of the questions, until standard output takes no more.
 fn ask_lines(records: &[u8], path: &[u8], text: &[u8]) {
     let n = text.len();
     let mut number: usize = 0;
     let mut at: usize = 0;
     while at < n {
-        let end = at + line_end(&text[at..]);
+        let end = at + piece_end(&text[at..], 0, 10);
         number += 1;
-        print_answers(records, path, number as u64, &text[at..end]);
+        if !print_answers(records, path, number as u64, &text[at..end]) {
+            os::fail(b"standard output");
+            return;
+        }
         at = end + 1;
     }
 }

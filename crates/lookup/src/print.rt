@@ -7,32 +7,55 @@ use libc::STDERR_FILENO;
 use libc::STDOUT_FILENO;
 use questions::questions::LineReply;
 use questions::questions::answer_line;
+use refusals::replies::reply_number;
 use rules::quantities::Ttl;
 use rules::replies::Reply;
-use rules::replies::reply_number;
 use words::words::print_words;
 
-fn print_record(records: &[u8], rtype: u16, lifetime: Ttl, place: usize, size: usize)
+// What came of printing a record: more may follow, or none can, or standard output didn't take all.
+enum Printed {
+    More,
+    Last,
+    Unwritten,
+}
+
+// Whether all was written.
+fn print_record(records: &[u8], rtype: u16, lifetime: Ttl, place: usize, size: usize) -> bool
     requires { ⌜ place + size ≤ length (now records) ⌝ }
 {
     let end = place + size;
-    io::write_all(STDOUT_FILENO, b"  ");
-    io::print_decimal(STDOUT_FILENO, rtype as u64);
-    io::write_all(STDOUT_FILENO, b" ");
-    io::print_decimal(STDOUT_FILENO, lifetime.0 as u64);
-    io::write_all(STDOUT_FILENO, b" ");
-    print_hex(STDOUT_FILENO, &records[place..end]);
-    io::write_all(STDOUT_FILENO, b"\n");
+    let a = io::write_all(STDOUT_FILENO, b"  ");
+    let b = io::print_decimal(STDOUT_FILENO, rtype as u64);
+    let c = io::write_all(STDOUT_FILENO, b" ");
+    let d = io::print_decimal(STDOUT_FILENO, lifetime.0 as u64);
+    let e = io::write_all(STDOUT_FILENO, b" ");
+    let f = print_hex(STDOUT_FILENO, &records[place..end]);
+    let g = io::write_all(STDOUT_FILENO, b"\n");
+    a & b & c & d & e & f & g
 }
 
-fn print_refusal(number: u64) {
-    io::write_all(STDOUT_FILENO, b"  ");
-    print_words(STDOUT_FILENO, number);
-    io::write_all(STDOUT_FILENO, b"\n");
+fn print_refusal(number: u64) -> bool {
+    let a = io::write_all(STDOUT_FILENO, b"  ");
+    let b = print_words(STDOUT_FILENO, number);
+    let c = io::write_all(STDOUT_FILENO, b"\n");
+    a & b & c
 }
 
-// Whether more may follow.
-fn print_reply(records: &[u8], reply: Reply, ordinal: u64) -> bool
+fn print_none(ordinal: u64) -> bool {
+    if ordinal == 0 {
+        return io::write_all(STDOUT_FILENO, b"  none\n");
+    }
+    true
+}
+
+fn last(written: bool) -> Printed {
+    if written {
+        return Printed::Last;
+    }
+    Printed::Unwritten
+}
+
+fn print_reply(records: &[u8], reply: Reply, ordinal: u64) -> Printed
     requires { ⌜ Inside (now records) reply ⌝ }
 {
     match reply {
@@ -42,27 +65,24 @@ fn print_reply(records: &[u8], reply: Reply, ordinal: u64) -> bool
             place,
             length,
         } => {
-            print_record(records, rtype, lifetime, place, length);
-            true
-        },
-        Reply::NoMore => {
-            if ordinal == 0 {
-                io::write_all(STDOUT_FILENO, b"  none\n");
+            if print_record(records, rtype, lifetime, place, length) {
+                return Printed::More;
             }
-            false
+            Printed::Unwritten
         },
-        Reply::Refused(_) => {
-            print_refusal(reply_number(reply));
-            false
-        },
+        Reply::NoMore => last(print_none(ordinal)),
+        Reply::Refused(_) => last(print_refusal(reply_number(reply))),
     }
 }
 
-fn print_question(line: &[u8], ordinal: u64) {
+// The question stands once, above its first record.
+fn print_question(line: &[u8], ordinal: u64) -> bool {
     if ordinal == 0 {
-        io::write_all(STDOUT_FILENO, line);
-        io::write_all(STDOUT_FILENO, b"\n");
+        let a = io::write_all(STDOUT_FILENO, line);
+        let b = io::write_all(STDOUT_FILENO, b"\n");
+        return a & b;
     }
+    true
 }
 
 fn refuse_line(path: &[u8], number: u64) {
@@ -75,27 +95,37 @@ fn refuse_line(path: &[u8], number: u64) {
     );
 }
 
-// The record of this ordinal; whether more may follow.
-fn print_answer(records: &[u8], path: &[u8], number: u64, line: &[u8], ordinal: u64) -> bool {
+// The record of this ordinal.
+fn print_answer(records: &[u8], path: &[u8], number: u64, line: &[u8], ordinal: u64) -> Printed {
     match answer_line(records, line, ordinal) {
         LineReply::Answered(reply) => {
-            print_question(line, ordinal);
+            if !print_question(line, ordinal) {
+                return Printed::Unwritten;
+            }
             print_reply(records, reply, ordinal)
         },
         LineReply::NoQuestion => {
             refuse_line(path, number);
-            false
+            Printed::Last
         },
     }
 }
 
-// Every ordinal of a question, from 0, until there are no more.
-pub fn print_answers(records: &[u8], path: &[u8], number: u64, line: &[u8]) {
+// Every ordinal of a question, from 0, until there are no more; whether all was written.
+pub fn print_answers(records: &[u8], path: &[u8], number: u64, line: &[u8]) -> bool {
     let mut ordinal: u64 = 0;
     while ordinal < u64::MAX {
-        if !print_answer(records, path, number, line, ordinal) {
-            return;
+        match print_answer(records, path, number, line, ordinal) {
+            Printed::More => {
+                ordinal += 1;
+            },
+            Printed::Last => {
+                return true;
+            },
+            Printed::Unwritten => {
+                return false;
+            },
         }
-        ordinal += 1;
     }
+    true
 }

@@ -3,4 +3,4 @@ mod asked;
 mod askers;
 mod moments;
 pub mod questions;
-pub mod spans;
+mod spans;

@@ -1,15 +1,7 @@
 // Four pieces between spaces.
 ghost use mathlib.Core.Path.{_≡_};
-ghost use Rattle.pieces.specs.Pieces.{IsEnd};
 ghost use Rattle.questions.specs.Views.{IsSpans, noSpans};
 use pieces::pieces::piece_end;
-
-// Where the first line ends: at byte 10, or at the text's end.
-pub fn line_end(text: &[u8]) -> usize
-    ensures { λ r. ⌜ IsEnd 10 (now (text .entry)) 0 r ⌝ }
-{
-    piece_end(text, 0, 10)
-}
 
 // The places of the three spaces between four pieces, and where the pieces behind them begin. All are 0 where there are not four pieces.
 pub struct Spans {

@@ -1,6 +1,6 @@
 -- The laws of the splitter: what each turn of its loop does to the fields found so far, and what the spans say at the end.
 use mathlib.Core.Path.{_≡_, refl, ap, _∙_, sym}
-use mathlib.Core.Bool.{true, false}
+use mathlib.Core.Bool.{true, false, true≢false}
 use mathlib.Core.List.{List, [], _∷_, _++_, map, append-nil}
 use Prim.Native.Nat.{ℕ, zero, suc, _+_, _-_, _<_, _≤_}
 use native.Mathlib.Omega.{arith}
@@ -10,11 +10,16 @@ use lib.Dec.{leb, eqb}
 use lib.ListN.{length, getD, take, drop, set, replicate, length-append, length-map, length-set, length-drop, drop-of-length-le, List·getD-map}
 use lib.Seq.{drop-drop, drop-set-lt, take-suc, getD-drop, append-snoc, length-take-le}
 use Rattle.rules.specs.Lists.{pick, ontoFirst, splitOn}
-use Rattle.rules.specs.Kinds.{fieldAt}
+use Rattle.rules.specs.Kinds.{fieldCount, fieldAt}
 use Rattle.rules.proofs.Lists.{All, nil, cons}
 use Rattle.wire.proofs.Steps.{left-at, take-put}
+use Rattle.rules.specs.declared.kinds.Kind.{Kind}
+use Rattle.rows.specs.Rows.{rowOf}
+use Rattle.rows.specs.declared.rows.Row.{Row}
+use Rattle.rows.proofs.Table.{count-most}
 use Rattle.splits.specs.declared.splits.Span.{Span}
-use Rattle.splits.specs.Splits.{none, spanText, Inside, FieldsOf, IsSplit}
+use Rattle.splits.specs.declared.splits.Parted.{Parted}
+use Rattle.splits.specs.Splits.{none, spanText, Inside, FieldsOf, IsParted, IsSplit}
 
 -- ---- general
 
@@ -186,13 +191,13 @@ module _ (s : List ℕ) (spans : List Span) (count start i most : ℕ) (going : 
       })
 
 -- the two ways out
-pub not-fitting : (s : List ℕ) (most : ℕ) (spans : List Span) → false ≡ leb (length (splitOn 58 s)) most → IsSplit s most (record { spans = spans; fits = false })
+pub not-fitting : (s : List ℕ) (most : ℕ) (spans : List Span) → false ≡ leb (length (splitOn 58 s)) most → IsParted s most (record { spans = spans; fits = false })
 not-fitting s most spans e = record { says = e; each = λ q. absurd (let z : _≡_ {A = ℕ} 0 1 = cc in omega arith) }
 
-pub fitting : (s : List ℕ) (most : ℕ) (spans : List Span) → true ≡ leb (length (splitOn 58 s)) most → FieldsOf s spans → IsSplit s most (record { spans = spans; fits = true })
+pub fitting : (s : List ℕ) (most : ℕ) (spans : List Span) → true ≡ leb (length (splitOn 58 s)) most → FieldsOf s spans → IsParted s most (record { spans = spans; fits = true })
 fitting s most spans e f = record { says = e; each = λ q. f }
 
-pub ruleset split·laws = (needs, begin, colon, other, full, end-fits, end-fields, not-fitting, fitting)
+pub ruleset parted·laws = (needs, begin, colon, other, full, end-fits, end-fields, not-fitting, fitting)
 
 -- ---- a field's text
 
@@ -211,3 +216,26 @@ module _ (s : List ℕ) (spans : List Span) (i : ℕ) (f : FieldsOf s spans) whe
   text h = f .texts i h
 
 pub ruleset field·laws = (needs, starts, ends, text)
+
+-- ---- by kind
+
+module _ (s : List ℕ) (kind : Kind) (row : Row) (e : row ≡ rowOf kind) where
+  rows : row .count ≡ fieldCount kind
+  unfolding rowOf
+  rows = ap (λ (r : Row). r .count) e
+
+  pub few-fields : row .count ≤ 11
+  few-fields = omega (arith, rows, count-most kind)
+
+  pub no-fields : (spans : List Span) → row .count ≡ 0 → IsSplit s kind (record { row = row; spans = spans; fits = false })
+  no-fields spans z =
+      record {
+        row = e;
+        says = sym (lt-leb (length (splitOn 58 s)) (fieldCount kind) (omega (arith, rows, split-some 58 s)));
+        each = λ q. absurd (true≢false (sym q));
+      }
+
+  pub as-many : (r : Parted) → IsParted s (row .count) r → IsSplit s kind (record { row = row; spans = r .spans; fits = r .fits })
+  as-many r p = record { row = e; says = p .says ∙ rw rows; each = p .each }
+
+pub ruleset split·laws = (needs, few-fields, no-fields, as-many)

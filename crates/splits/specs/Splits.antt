@@ -6,9 +6,12 @@ use Prim.Native.Nat.{ℕ, _-_, _≤_, _<_}
 use lib.ListN.{length, take, drop, getD}
 use lib.Dec.{leb}
 use Rattle.rules.specs.Lists.{splitOn}
-use Rattle.rules.specs.Kinds.{fieldAt}
+use Rattle.rules.specs.Kinds.{fieldCount, fieldAt}
 use Rattle.rules.proofs.Lists.{All}
+use Rattle.rules.specs.declared.kinds.Kind.{Kind}
+use Rattle.rows.specs.Rows.{rowOf}
 use Rattle.splits.specs.declared.splits.Span.{Span}
+use Rattle.splits.specs.declared.splits.Parted.{Parted}
 use Rattle.splits.specs.declared.splits.Fields.{Fields}
 
 abbrev pub none : Span
@@ -27,6 +30,11 @@ pub record FieldsOf (s : List ℕ) (spans : List Span) : Type 0 where
   pub inside : All (Inside (length s)) spans
   pub texts : (i : ℕ) → i < 11 → spanText s (getD spans i none) ≡ fieldAt (splitOn 58 s) i
 
-pub record IsSplit (s : List ℕ) (most : ℕ) (r : Fields) : Type 0 where
+pub record IsParted (s : List ℕ) (most : ℕ) (r : Parted) : Type 0 where
   pub says : r .fits ≡ leb (length (splitOn 58 s)) most
+  pub each : r .fits ≡ true → FieldsOf s (r .spans)
+
+pub record IsSplit (s : List ℕ) (kind : Kind) (r : Fields) : Type 0 where
+  pub row : r .row ≡ rowOf kind
+  pub says : r .fits ≡ leb (length (splitOn 58 s)) (fieldCount kind)
   pub each : r .fits ≡ true → FieldsOf s (r .spans)

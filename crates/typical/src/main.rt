@@ -1,12 +1,12 @@
 // typical FILE SERIAL: the records of a file, byte for byte, on standard output. A refusal goes to standard error: a program has no
 // exit status of its own choice.
 use compiled::compiled::compile_file;
-use compiled::compiled::records_buffer;
 use console::arguments::SerialRead;
 use console::arguments::argument;
 use console::arguments::serial;
 use libc::STDERR_FILENO;
 use libc::STDOUT_FILENO;
+use room::records_buffer;
 
 fn print_records(path: &[u8], serial: u32) {
     let mut records = records_buffer();

@@ -2,8 +2,8 @@
 ghost use Rattle.vahmizar.specs.Promises.{Serves};
 use compiler::compile::compile;
 use reader::ask;
+use refusals::faults::is_done;
 use rules::faults::Answer;
-use rules::faults::is_done;
 use rules::quantities::Moment;
 use rules::replies::Reply;
 

@@ -8,7 +8,7 @@ use compiler::compile::compile;
 use numbers::put_four;
 use numbers::put_reply;
 use reader::ask;
-use rules::faults::number;
+use refusals::faults::number;
 use rules::quantities::Moment;
 
 // Compiles a source; the answer's numbers go into 32 lent bytes, and the first is returned.

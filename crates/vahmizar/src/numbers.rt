@@ -8,8 +8,8 @@ ghost use Rattle.rules.specs.Reading.{replyNumber, replyNumbers};
 ghost use Rattle.buffer.specs.Put.{IsPut};
 ghost use Rattle.vahmizar.specs.Promises.{laid};
 use integers::integers::put_le;
+use refusals::replies::reply_number;
 use rules::replies::Reply;
-use rules::replies::reply_number;
 
 fn put_pair(out: &mut [u8], a: u64, b: u64) -> usize
     requires { ⌜ 16 ≤ length (now out) ⌝ }

@@ -100,40 +100,24 @@ pub ruleset kind·laws = (needs, ready-as, room-as, put-as, nothing-as, serial·
 
 -- ---- the fields behind the kind byte
 
--- a kind without a fault has fields, and no more than its row says
-counted : (kind : Kind) (fields : List (List ℕ)) → Done (kindFault kind fields) → (1 ≤ fieldCount kind) × (length fields ≤ fieldCount kind)
+-- a kind without a fault has no more fields than its row says
+counted : (kind : Kind) (fields : List (List ℕ)) → Done (kindFault kind fields) → length fields ≤ fieldCount kind
 unfolding kindFault wholeLine isDone
 counted kind fields =
-    pick-ok (λ f. Done f → Good) _ (λ t d. absurd d)
-    (λ t. pick-ok (λ f. Done f → Good) _ (λ u d. absurd d) (λ u d. (some (fieldCount kind) t, nltb→le (fieldCount kind) (length fields) u)))
+    pick-ok (λ f. Done f → Few) _ (λ t d. absurd d) (λ t. pick-ok (λ f. Done f → Few) _ (λ u d. absurd d) (λ u d. nltb→le (fieldCount kind) (length fields) u))
   where
-    Good : Type 0
-    Good = (1 ≤ fieldCount kind) × (length fields ≤ fieldCount kind)
+    Few : Type 0
+    Few = length fields ≤ fieldCount kind
 
-    some : (n : ℕ) → T (not (eqb n 0)) → 1 ≤ n
-    some zero t = absurd t
-    some (suc n) t = omega arith
+pub ready-of : (kind : Kind) (s : List ℕ) (fields : Fields) → GoodRest kind s → IsSplit s kind fields → Ready kind s (fields .spans)
+ready-of kind s fields g p =
+    record {
+      fields = p .each (p .says ∙ le-leb (length (splitOn 58 s)) (fieldCount kind) (counted kind (splitOn 58 s) (g .good)));
+      short = g .short;
+      good = g .good;
+    }
 
-module _ (kind : Kind) (s : List ℕ) (row : Row) (g : GoodRest kind s) (e : row ≡ rowOf kind) where
-  rows : row .count ≡ fieldCount kind
-  unfolding rowOf
-  rows = ap (λ (r : Row). r .count) e
-
-  pub some-fields : 1 ≤ row .count
-  some-fields = omega (arith, rows, counted kind (splitOn 58 s) (g .good))
-
-  pub few-fields : row .count ≤ 11
-  few-fields = omega (arith, rows, count-most kind)
-
-  pub ready-of : (fields : Fields) → IsSplit s (row .count) fields → Ready kind s (fields .spans)
-  ready-of fields p =
-      record {
-        fields = p .each (p .says ∙ le-leb (length (splitOn 58 s)) (row .count) (omega (arith, rows, counted kind (splitOn 58 s) (g .good))));
-        short = g .short;
-        good = g .good;
-      }
-
-pub ruleset rest·laws = (needs, some-fields, few-fields, ready-of)
+pub ruleset rest·laws = (needs, ready-of)
 
 -- ---- a line
 

@@ -20,7 +20,6 @@ use locations::locations::put_location_line;
 use mail::mail::put_mail_line;
 use pointers::pointers::put_canonical_line;
 use pointers::pointers::put_pointer_line;
-use rows::rows::row_of;
 use rules::kinds::Kind;
 use services::services::put_service_line;
 use splits::splits::Span;
@@ -56,9 +55,7 @@ fn put_rest(out: &mut [u8], rest: &[u8], kind: Kind, serial: u32) -> usize
     requires { ⌜ GoodRest kind (now rest) × (length (bytesOf (recordsOf serial kind (splitOn 58 (now rest)))) ≤ length (now out)) ⌝ }
     ensures { λ r. ⌜ IsPut (bytesOf (recordsOf serial kind (splitOn 58 (now (rest .entry))))) (now (out .entry)) (now (out .exit)) r ⌝ }
 {
-    let row = row_of(kind);
-    let count = row.count;
-    let fields = split(rest, count);
+    let fields = split(rest, kind);
     let spans = fields.spans;
     put_kind(out, rest, spans, kind, serial)
 }

@@ -25,7 +25,8 @@ vahmizar: compile tinydns data and ask compiled records
   MOMENT    now (as without --at), seconds of Unix time, or 16 hex digits of
             a TAI64 time with or without @ in front
 
-Options may stand anywhere; -- ends them. A refused source is reported as
+Options may stand anywhere behind the command's name; -- ends them. A refused
+source is reported as
     data:12:2: refused 6: address or prefix
 with line 12 and field 2, and the field's text on the line below.
 

@@ -1,8 +1,9 @@
 //! Replacing a file as a whole: readers see the old bytes or the new ones.
 
 use std::ffi::OsString;
-use std::fs::{self, File, OpenOptions};
+use std::fs::{self, File, Metadata, OpenOptions};
 use std::io::{self, ErrorKind, Write};
+use std::os::unix::fs::{fchown, MetadataExt, OpenOptionsExt};
 use std::path::{Path, PathBuf};
 use std::process;
 
@@ -35,8 +36,11 @@ fn new_target(path: &Path) -> io::Result<PathBuf> {
 /// Replaces the file at a path that [`target`] gave. On a failure it stays as
 /// it was, and no temporary file is left.
 pub fn replace(target: &Path, bytes: &[u8]) -> io::Result<()> {
-    let (file, temporary) = create_beside(target)?;
-    let replaced = fill(file, bytes, target).and_then(|()| fs::rename(&temporary, target));
+    let old = fs::metadata(target).ok();
+    // Nobody reads the new bytes who couldn't read the old ones.
+    let mode = if old.is_some() { 0o600 } else { 0o666 };
+    let (file, temporary) = create_beside(target, mode)?;
+    let replaced = fill(file, bytes, old).and_then(|()| fs::rename(&temporary, target));
     if replaced.is_err() {
         // The first failure is the one to tell.
         let _ = fs::remove_file(&temporary);
@@ -50,16 +54,20 @@ pub fn replace(target: &Path, bytes: &[u8]) -> io::Result<()> {
     Ok(())
 }
 
-fn fill(mut file: File, bytes: &[u8], target: &Path) -> io::Result<()> {
+/// Gives the file the bytes, and owner, group and mode of the one it replaces.
+fn fill(mut file: File, bytes: &[u8], old: Option<Metadata>) -> io::Result<()> {
     file.write_all(bytes)?;
-    if let Ok(old) = fs::metadata(target) {
+    if let Some(old) = old {
+        // Only root may give a file away; where it can't be, the mode is kept.
+        let _ = fchown(&file, None, Some(old.gid()));
+        let _ = fchown(&file, Some(old.uid()), None);
         file.set_permissions(old.permissions())?;
     }
     file.sync_all()
 }
 
 /// A new file in the same folder, so that renaming stays in one file system.
-fn create_beside(target: &Path) -> io::Result<(File, PathBuf)> {
+fn create_beside(target: &Path, mode: u32) -> io::Result<(File, PathBuf)> {
     let name = target.file_name().unwrap_or_default();
     for attempt in 0.. {
         let mut beside = OsString::from(".");
@@ -69,6 +77,7 @@ fn create_beside(target: &Path) -> io::Result<(File, PathBuf)> {
         match OpenOptions::new()
             .write(true)
             .create_new(true)
+            .mode(mode)
             .open(&beside)
         {
             Ok(file) => return Ok((file, beside)),

@@ -19,19 +19,20 @@ fn writes_the_records() {
 }
 
 #[test]
-fn replaces_old_output_and_keeps_its_permissions() {
-    use std::os::unix::fs::PermissionsExt;
+fn replaces_old_output_and_keeps_its_mode_and_owner() {
+    use std::os::unix::fs::{chown, MetadataExt, PermissionsExt};
     let folder = Folder::new("replaces_old_output");
+    let out = folder.file("out");
     folder.write("data", "+a.b:192.0.2.1\n");
     folder.write("out", [7; 500]);
-    fs::set_permissions(folder.file("out"), fs::Permissions::from_mode(0o640)).unwrap();
+    fs::set_permissions(&out, fs::Permissions::from_mode(0o640)).unwrap();
+    // Only root may give a file away; another's test has its own file.
+    let _ = chown(&out, Some(65534), Some(65534));
+    let kept = |file: fs::Metadata| (file.mode(), file.uid(), file.gid());
+    let old = kept(fs::metadata(&out).unwrap());
     folder.good(&["compile", "data", "out"]);
     assert_eq!(folder.read("out").len(), 32);
-    let mode = fs::metadata(folder.file("out"))
-        .unwrap()
-        .permissions()
-        .mode();
-    assert_eq!(mode & 0o777, 0o640);
+    assert_eq!(kept(fs::metadata(&out).unwrap()), old);
     assert_eq!(folder.names(), ["data", "out"]);
 }
 

@@ -2,14 +2,11 @@ use Rattle.lines.proofs.Judging.{kind·laws}
 use Rattle.lines.proofs.judge.kind_fault.Statement.{statement}
 use Rattle.lines.proofs.judge.kind_fault.Tie as tie
 
-row-of-requires : tie.Need-row-of-requires
-row-of-requires c κs = search kind·laws
+split-requires : tie.Need-split-requires
+split-requires c κs = search kind·laws
 
 returns : tie.Need-returns
 returns c = search kind·laws
-
-split-requires : tie.Need-split-requires
-split-requires c κs = search kind·laws
 
 returns-2 : tie.Need-returns-2
 returns-2 c = search kind·laws
@@ -33,9 +30,8 @@ pub kind-fault-spec : {M : Type 1} → statement M
 kind-fault-spec =
     tie.close
     (tie.spec
-    row-of-requires
-    returns
     split-requires
+    returns
     returns-2
     fields-fault-requires
     is-done-requires

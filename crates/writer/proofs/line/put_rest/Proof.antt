@@ -2,9 +2,6 @@ use Rattle.writer.proofs.ByKind.{rest·laws}
 use Rattle.writer.proofs.line.put_rest.Statement.{statement}
 use Rattle.writer.proofs.line.put_rest.Tie as tie
 
-row-of-requires : tie.Need-row-of-requires
-row-of-requires c κs = search rest·laws
-
 split-requires : tie.Need-split-requires
 split-requires c κs = search rest·laws
 
@@ -19,4 +16,4 @@ returns c = search rest·laws
 
 pub put-rest-spec : {M : Type 1} → statement M
 put-rest-spec =
-    tie.close (tie.spec row-of-requires split-requires put-kind-requires same-length returns)
+    tie.close (tie.spec split-requires put-kind-requires same-length returns)

@@ -2,8 +2,8 @@
 use mathlib.Core.Path.{sym}
 use Prim.Native.Nat.{ℕ}
 use lib.ListN.{length-replicate}
-use Rattle.compiled.proofs.compiled.records_buffer.Statement.{statement}
-use Rattle.compiled.proofs.compiled.records_buffer.Tie as tie
+use Rattle.room.proofs.records_buffer.Statement.{statement}
+use Rattle.room.proofs.records_buffer.Tie as tie
 
 returns : tie.Need-returns
 returns c = sym (length-replicate {0} {A = ℕ} 3145728 0)

@@ -2,9 +2,9 @@ use mathlib.Core.Path.{ap}
 use Prim.Native.Nat.{ℕ}
 use lib.Dec.{eqb}
 use borrow.Author.Needs.{needs}
 use Rattle.rules.specs.Answers.{isDone}
-use Rattle.rules.proofs.faults.is_done.Statement.{statement}
-use Rattle.rules.proofs.faults.is_done.Tie as tie
+use Rattle.refusals.proofs.faults.is_done.Statement.{statement}
+use Rattle.refusals.proofs.faults.is_done.Tie as tie
 
 number-requires : tie.Need-number-requires
 number-requires c κs = search needs

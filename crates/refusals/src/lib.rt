@@ -1,0 +1,3 @@
+// The number that 01 gives each answer of compiling and asking.
+pub mod faults;
+pub mod replies;
