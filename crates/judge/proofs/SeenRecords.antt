@@ -57,36 +57,36 @@ pub ruleset behind·laws = (needs, fields-broken, fields-there)
 
 -- ---- lo behind the flag
 
-module _ (rdata : List ℕ) where
-  short-lo : (rdata : List ℕ) → 3 ≤ length rdata → length rdata < 5 → isLo (take 2 (drop 3 rdata)) ≡ false
-  unfolding isLo
-  short-lo [] l h = absurd (omega arith)
-  short-lo (a ∷ []) l h = absurd (omega arith)
-  short-lo (a ∷ b ∷ []) l h = absurd (omega arith)
-  short-lo (a ∷ b ∷ c ∷ []) l h = refl
-  short-lo (a ∷ b ∷ c ∷ d ∷ []) l h = refl
-  short-lo (a ∷ b ∷ c ∷ d ∷ e ∷ r) l h = absurd (omega arith)
+short-lo : (rdata : List ℕ) → 3 ≤ length rdata → length rdata < 5 → isLo (take 2 (drop 3 rdata)) ≡ false
+unfolding isLo
+short-lo [] l h = absurd (omega arith)
+short-lo (a ∷ []) l h = absurd (omega arith)
+short-lo (a ∷ b ∷ []) l h = absurd (omega arith)
+short-lo (a ∷ b ∷ c ∷ []) l h = refl
+short-lo (a ∷ b ∷ c ∷ d ∷ []) l h = refl
+short-lo (a ∷ b ∷ c ∷ d ∷ e ∷ r) l h = absurd (omega arith)
 
+two : (rdata : List ℕ) → 5 ≤ length rdata → take 2 (drop 3 rdata) ≡ getD rdata 3 0 ∷ getD rdata 4 0 ∷ []
+two [] l = absurd (omega arith)
+two (a ∷ []) l = absurd (omega arith)
+two (a ∷ b ∷ []) l = absurd (omega arith)
+two (a ∷ b ∷ c ∷ []) l = absurd (omega arith)
+two (a ∷ b ∷ c ∷ d ∷ []) l = absurd (omega arith)
+two (a ∷ b ∷ c ∷ d ∷ e ∷ r) l = refl
+
+pub code : (rdata : List ℕ) → 5 ≤ length rdata → loIn (drop 3 rdata) ≡ Lo.Code (getD rdata 3 0) (getD rdata 4 0)
+unfolding loIn
+code [] l = absurd (omega arith)
+code (a ∷ []) l = absurd (omega arith)
+code (a ∷ b ∷ []) l = absurd (omega arith)
+code (a ∷ b ∷ c ∷ []) l = absurd (omega arith)
+code (a ∷ b ∷ c ∷ d ∷ []) l = absurd (omega arith)
+code (a ∷ b ∷ c ∷ d ∷ e ∷ r) l = refl
+
+module _ (rdata : List ℕ) where
   pub lo-short : 3 ≤ length rdata → length rdata < 5 → Flag.Broken ≡ loFlag rdata
   unfolding loFlag pick
   lo-short l h = rw (short-lo rdata l h)
-
-  two : (rdata : List ℕ) → 5 ≤ length rdata → take 2 (drop 3 rdata) ≡ getD rdata 3 0 ∷ getD rdata 4 0 ∷ []
-  two [] l = absurd (omega arith)
-  two (a ∷ []) l = absurd (omega arith)
-  two (a ∷ b ∷ []) l = absurd (omega arith)
-  two (a ∷ b ∷ c ∷ []) l = absurd (omega arith)
-  two (a ∷ b ∷ c ∷ d ∷ []) l = absurd (omega arith)
-  two (a ∷ b ∷ c ∷ d ∷ e ∷ r) l = refl
-
-  code : (rdata : List ℕ) → 5 ≤ length rdata → loIn (drop 3 rdata) ≡ Lo.Code (getD rdata 3 0) (getD rdata 4 0)
-  unfolding loIn
-  code [] l = absurd (omega arith)
-  code (a ∷ []) l = absurd (omega arith)
-  code (a ∷ b ∷ []) l = absurd (omega arith)
-  code (a ∷ b ∷ c ∷ []) l = absurd (omega arith)
-  code (a ∷ b ∷ c ∷ d ∷ []) l = absurd (omega arith)
-  code (a ∷ b ∷ c ∷ d ∷ e ∷ r) l = refl
 
   module _ (l : 5 ≤ length rdata) (v : Bool) (o : v ≡ isLo (getD rdata 3 0 ∷ getD rdata 4 0 ∷ [])) where
     pub no-lo : not v ≡ true → Flag.Broken ≡ loFlag rdata

@@ -12,7 +12,7 @@ ghost use Rattle.rules.specs.Questions.{ancestors};
 ghost use Rattle.rules.specs.Reading.{recordIn, decode};
 ghost use Rattle.level.specs.Ranks.{among, keyRank, rankIn, seenRank, largest};
 use judge::Seen;
-use judge::record_in;
+use judge::known_in;
 use rules::quantities::Lo;
 use stream::span_at;
 use view::visible;
@@ -113,12 +113,13 @@ fn rank(name: &[u8], key: &[u8], wild: bool) -> usize
 
 // The rank of a record that a client who is here sees at a moment, 0 for any other. The key alone rules most records out.
 pub fn rank_in(name: &[u8], here: Lo, moment: u64, key: &[u8], rdata: &[u8]) -> usize
+    requires { ⌜ isSome (recordIn (now key) (now rdata)) ≡ true ⌝ }
     ensures { λ r. ⌜ r ≡ rankIn (map lower (now (name .entry))) (loBytes here) moment (recordIn (now (key .entry)) (now (rdata .entry))) ⌝ }
 {
     if !is_related(name, key) {
         return 0;
     }
-    match record_in(key, rdata) {
+    match known_in(key, rdata) {
         Seen::Broken => 0,
         Seen::Location(_) => 0,
         Seen::Resource {
