@@ -99,14 +99,14 @@ known key (t ∷ u ∷ []) k = let z : _≡_ {A = ℕ} 0 1 = cc in absurd (omega
 known key (t ∷ u ∷ flag ∷ rest) k =
     let q : (0 * 256 + t) * 256 + u ≡ t * 256 + u = omega arith in
     let m : byFlag key (t * 256 + u) flag rest ≡ pick (goodKey (wildcardFlag flag) key) (onFlag key (t ∷ u ∷ flag ∷ rest) (wildcardFlag flag) (t * 256 + u) (flagBy flag (t ∷ u ∷ flag ∷ rest))) none
-        = flag-means key (t ∷ u ∷ flag ∷ rest) (t * 256 + u) flag in
+    = flag-means key (t ∷ u ∷ flag ∷ rest) (t * 256 + u) flag in
     let s : isSome (byFlag key (t * 256 + u) flag rest) ≡ true = rw q at k in
     let n : byFlag key (t * 256 + u) flag rest ≡ onFlag key (t ∷ u ∷ flag ∷ rest) (wildcardFlag flag) (t * 256 + u) (flagBy flag (t ∷ u ∷ flag ∷ rest))
-        = m ∙ some-of _ _ (rw m at s) in
+    = m ∙ some-of _ _ (rw m at s) in
     record {
-        long = omega arith;
-        whole = flag-whole key (t ∷ u ∷ flag ∷ rest) (wildcardFlag flag) (t * 256 + u) (flagBy flag (t ∷ u ∷ flag ∷ rest)) (rw n at s);
-        means = flag-seen key (t ∷ u ∷ flag ∷ rest) (wildcardFlag flag) (t * 256 + u) (flagBy flag (t ∷ u ∷ flag ∷ rest)) ∙ sym n ∙ rw q
+      long = omega arith;
+      whole = flag-whole key (t ∷ u ∷ flag ∷ rest) (wildcardFlag flag) (t * 256 + u) (flagBy flag (t ∷ u ∷ flag ∷ rest)) (rw n at s);
+      means = flag-seen key (t ∷ u ∷ flag ∷ rest) (wildcardFlag flag) (t * 256 + u) (flagBy flag (t ∷ u ∷ flag ∷ rest)) ∙ sym n ∙ rw q;
     }
 
 module _ (key rdata : List ℕ) (k : isSome (recordIn key rdata) ≡ true) (t : Bool) (q : t ≡ (leb 2 (length key) && eqb (getD key 0 0) 0)) (y : t ≡ false) where

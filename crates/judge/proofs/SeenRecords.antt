@@ -1,11 +1,11 @@
 -- What the code answers of one record means what the rules read.
-use mathlib.Core.Path.{_≡_, refl}
-use mathlib.Core.Bool.{Bool, true, false, not}
+use mathlib.Core.Path.{_≡_, refl, _∙_, sym}
+use mathlib.Core.Bool.{Bool, true, false, not, _||_}
 use mathlib.Core.List.{List, [], _∷_}
 use Prim.Native.Nat.{ℕ, _+_, _-_, _<_, _≤_}
 use native.Mathlib.Omega.{arith}
 use borrow.Author.Needs.{needs}
-use borrow.Author.Tests.{ne-eqb, le-leb, lt-leb, lt-ltb, le-ltb, not-true, not-false}
+use borrow.Author.Tests.{eqb-true, ne-eqb, le-leb, lt-leb, lt-ltb, le-ltb, not-true, not-false}
 use lib.ListN.{length, take, drop, getD}
 use lib.Dec.{eqb}
 use Rattle.rules.specs.declared.quantities.Lo.{Lo}
@@ -124,12 +124,20 @@ module _ (rdata : List ℕ) where
   unfolding flagIn flagBy pick
   greater f e q = rw e q
 
-  pub plus : (f : Flag) → getD rdata 2 0 ≡ 43 → f ≡ loFlag rdata → f ≡ flagIn rdata
-  unfolding flagIn flagBy pick
-  plus f e q = rw e q
+  module _ (w : Bool) (q : w ≡ wildcardFlag (getD rdata 2 0)) where
+    pub plus : (f : Flag) → w ≡ true → (getD rdata 2 0 ≡ 42 → ⊥) → f ≡ loFlag rdata → f ≡ flagIn rdata
+    unfolding flagIn flagBy pick wildcardFlag
+    plus f y n p =
+        let e : getD rdata 2 0 ≡ 43 = eqb-true (getD rdata 2 0) 43 (rw (ne-eqb _ _ n) at (sym q ∙ y)) in
+        rw e p
 
-  pub no-flag : (getD rdata 2 0 ≡ 61 → ⊥) → (getD rdata 2 0 ≡ 62 → ⊥) → (getD rdata 2 0 ≡ 42 → ⊥) → (getD rdata 2 0 ≡ 43 → ⊥) → Flag.Broken ≡ flagIn rdata
-  unfolding flagIn flagBy pick
-  no-flag a b c d = rw (ne-eqb _ _ a, ne-eqb _ _ b, ne-eqb _ _ c, ne-eqb _ _ d)
+    pub no-flag : w ≡ false → (getD rdata 2 0 ≡ 61 → ⊥) → (getD rdata 2 0 ≡ 62 → ⊥) → Flag.Broken ≡ flagIn rdata
+    unfolding flagIn flagBy pick wildcardFlag
+    no-flag y a b = go (eqb (getD rdata 2 0) 42) (eqb (getD rdata 2 0) 43) (sym q ∙ y)
+      where
+        go : (c d : Bool) → (c || d) ≡ false → Flag.Broken ≡ pick (eqb (getD rdata 2 0) 61 || c) (Flag.Whole Lo.Every 3) (pick (eqb (getD rdata 2 0) 62 || d) (loFlag rdata) Flag.Broken)
+        go false false z = unfold pick in rw (ne-eqb _ _ a, ne-eqb _ _ b)
+        go true d z = let y : _≡_ {A = ℕ} 0 1 = cc in absurd (omega arith)
+        go false true z = let y : _≡_ {A = ℕ} 0 1 = cc in absurd (omega arith)
 
 pub ruleset flag·laws = (needs, equals, greater, star, plus, no-flag)

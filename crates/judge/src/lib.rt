@@ -65,17 +65,25 @@ fn lo_in(rdata: &[u8]) -> Flag
 }
 
 // By the flag: `=` and `*` have no lo, `>` and `+` have one.
-fn flag_in(rdata: &[u8]) -> Flag
+fn flag_in(rdata: &[u8], wild: bool) -> Flag
     requires { ⌜ 3 ≤ length (now rdata) ⌝ }
+    requires { ⌜ wild ≡ wildcardFlag (getD (now rdata) 2 0) ⌝ }
     ensures { λ r. ⌜ r ≡ flagIn (now (rdata .entry)) ⌝ }
 {
-    match rdata[2] {
-        61 => Flag::Whole(Lo::Every, 3),
-        62 => lo_in(rdata),
-        42 => Flag::Whole(Lo::Every, 3),
-        43 => lo_in(rdata),
-        _ => Flag::Broken,
+    let flag = rdata[2];
+    if wild {
+        if flag == 42 {
+            return Flag::Whole(Lo::Every, 3);
+        }
+        return lo_in(rdata);
     }
+    if flag == 61 {
+        return Flag::Whole(Lo::Every, 3);
+    }
+    if flag == 62 {
+        return lo_in(rdata);
+    }
+    Flag::Broken
 }
 
 // Ttl and time, behind the flag and lo.
@@ -126,7 +134,7 @@ fn by_flag(key: &[u8], rdata: &[u8], rtype: u16) -> Seen
     if !is_good_key(key, wild) {
         return Seen::Broken;
     }
-    match flag_in(rdata) {
+    match flag_in(rdata, wild) {
         Flag::Whole(lo, at) => fields_in(rdata, lo, at, wild, rtype),
         Flag::Broken => Seen::Broken,
     }

@@ -10,7 +10,7 @@ ghost use Rattle.rules.specs.Names.{isWire};
 ghost use Rattle.rules.specs.Records.{loBytes};
 ghost use Rattle.rules.specs.Questions.{ancestors};
 ghost use Rattle.rules.specs.Reading.{recordIn, decode};
-ghost use Rattle.level.specs.Ranks.{among, keyRank, rankIn, seenRank, largest};
+ghost use Rattle.level.specs.Ranks.{among, endsIn, keyRank, rankIn, seenRank, largest};
 use judge::Seen;
 use judge::known_in;
 use rules::quantities::Lo;
@@ -77,19 +77,26 @@ fn is_ancestor(name: &[u8], key: &[u8]) -> bool
     false
 }
 
-// Whether a record of this key can answer for a name at all. Then the name ends in the key; most keys are told by a byte.
-pub fn is_related(name: &[u8], key: &[u8]) -> bool
-    ensures { λ r. ⌜ r ≡ (sameBytes (now (key .entry)) (map lower (now (name .entry))) || among (now (key .entry)) (ancestors (map lower (now (name .entry))))) ⌝ }
+// Whether a name ends in a key, as it does in those that can answer for it. Most keys are told by a byte.
+pub fn is_end(name: &[u8], key: &[u8]) -> bool
+    ensures { λ r. ⌜ r ≡ endsIn (map lower (now (name .entry))) (now (key .entry)) ⌝ }
 {
     let n = name.len();
     if n < key.len() {
         return false;
     }
     let front = n - key.len();
-    if !same_lowered(key, &name[front..]) {
+    same_lowered(key, &name[front..])
+}
+
+// Whether a record of this key can answer for a name at all.
+fn is_related(name: &[u8], key: &[u8]) -> bool
+    ensures { λ r. ⌜ r ≡ (sameBytes (now (key .entry)) (map lower (now (name .entry))) || among (now (key .entry)) (ancestors (map lower (now (name .entry))))) ⌝ }
+{
+    if !is_end(name, key) {
         return false;
     }
-    if front == 0 {
+    if name.len() == key.len() {
         return true;
     }
     is_ancestor(name, key)
