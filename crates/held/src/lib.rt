@@ -3,7 +3,7 @@ ghost use mathlib.Core.Path.{_≡_};
 ghost use Rattle.rules.specs.Reading.{askReply};
 ghost use Rattle.held.specs.Places.{foundAt, foundFrom};
 
-pub mod place;
+mod place;
 
 use place::Found;
 use place::record_at;
@@ -53,7 +53,7 @@ pub fn ask<'a, 'b, 'c>(
 }
 
 // What is at a place of bytes, by a reader that begins there: whoever calls it with plain bytes needs no reader.
-pub fn record_from(bytes: &[u8], at: usize) -> Found
+fn record_from(bytes: &[u8], at: usize) -> Found
     ensures { λ f. ⌜ f ≡ foundAt (now (bytes .entry)) at ⌝ }
 {
     peek(Reader { bytes, at })

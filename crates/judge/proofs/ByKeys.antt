@@ -106,17 +106,20 @@ module _ (rdata : List ℕ) where
   no-key [] h = refl
   no-key (b ∷ key) h = absurd (omega arith)
 
-  pub name-key : (key : List ℕ) (t : Bool) (r : Seen) → (length key ≡ 0 → ⊥) → t ≡ (leb 2 (length key) && eqb (getD key 0 0) 0) → t ≡ false
-      → seenRecord key rdata r ≡ resourceIn key rdata → seenRecord key rdata r ≡ recordIn key rdata
+  pub name-is : (key : List ℕ) (t : Bool) → (length key ≡ 0 → ⊥) → t ≡ (leb 2 (length key) && eqb (getD key 0 0) 0) → t ≡ false → resourceIn key rdata ≡ recordIn key rdata
   unfolding recordIn
-  name-key [] t r h q y e = absurd (h refl)
-  name-key (zero ∷ []) t r h q y e = e
-  name-key (zero ∷ b ∷ key) t r h q y e =
+  name-is [] t h q y = absurd (h refl)
+  name-is (zero ∷ []) t h q y = refl
+  name-is (zero ∷ b ∷ key) t h q y =
       let p : leb 2 (length (zero ∷ b ∷ key)) ≡ true = le-leb 2 (length (zero ∷ b ∷ key)) (omega arith) in
       let z : _≡_ {A = Bool} true false = rw p at (sym q ∙ y) in
       let y : _≡_ {A = ℕ} 0 1 = cc in
       absurd (omega arith)
-  name-key (suc b ∷ key) t r h q y e = e
+  name-is (suc b ∷ key) t h q y = refl
+
+  pub name-key : (key : List ℕ) (t : Bool) (r : Seen) → (length key ≡ 0 → ⊥) → t ≡ (leb 2 (length key) && eqb (getD key 0 0) 0) → t ≡ false
+      → seenRecord key rdata r ≡ resourceIn key rdata → seenRecord key rdata r ≡ recordIn key rdata
+  name-key key t r h q y e = e ∙ name-is key t h q y
 
   pub location-key : (key : List ℕ) (t : Bool) (r : Seen) → t ≡ (leb 2 (length key) && eqb (getD key 0 0) 0) → t ≡ true
       → seenRecord key rdata r ≡ locationIn (getD key 1 0) (drop 2 key) rdata → seenRecord key rdata r ≡ recordIn key rdata

@@ -26,7 +26,7 @@ use Rattle.judge.specs.Seen.{ownerOf, seenRecord, sharedIn, seenWith, wi
 
 -- what stands behind lo at a place of the data
 module _ (key rdata : List ℕ) (w : Bool) (type : ℕ) where
-  behind : (lo : Lo) (at : ℕ) → seenRecord key rdata (seenWith w type (at + 12) (sharedIn lo (drop at rdata))) ≡ behindLo (ownerOf w key) type (loBytes lo) (drop at rdata)
+  pub behind : (lo : Lo) (at : ℕ) → seenRecord key rdata (seenWith w type (at + 12) (sharedIn lo (drop at rdata))) ≡ behindLo (ownerOf w key) type (loBytes lo) (drop at rdata)
   unfolding seenRecord seenWith sharedIn behindLo pick
   behind lo at =
       rw (drop-drop 12 at rdata)
@@ -44,7 +44,7 @@ two-of (a ∷ []) h = let z : _≡_ {A = ℕ} 0 1 = cc in absurd (omega arith)
 two-of (a ∷ b ∷ rest) h = refl
 
 -- the record that flag and lo, and what is behind them, give
-onFlag : List ℕ → List ℕ → Bool → ℕ → Flag → Option Record
+unfoldable pub onFlag : List ℕ → List ℕ → Bool → ℕ → Flag → Option Record
 onFlag key rdata w type Flag.Broken = none
 onFlag key rdata w type (Flag.Whole lo at) = behindLo (ownerOf w key) type (loBytes lo) (drop at rdata)
 
@@ -64,7 +64,7 @@ module _ (key rdata : List ℕ) (type : ℕ) where
   no-record false = refl
 
   -- the rules' reading by the flag: first the key, then lo, then the rest
-  flag-means : (flag : ℕ) → byFlag key type flag (drop 3 rdata) ≡ pick (goodKey (wildcardFlag flag) key) (onFlag key rdata (wildcardFlag flag) type (flagBy flag rdata)) none
+  pub flag-means : (flag : ℕ) → byFlag key type flag (drop 3 rdata) ≡ pick (goodKey (wildcardFlag flag) key) (onFlag key rdata (wildcardFlag flag) type (flagBy flag rdata)) none
   flag-means flag = equal (eqb flag 61) refl
     where
       Goal : ℕ → Type 0
@@ -112,17 +112,18 @@ module _ (key rdata : List ℕ) (type : ℕ) where
       unfolding onFlag
       flag-read lo at r b e = ap (seenRecord key rdata) e ∙ behind key rdata w type lo at ∙ sym (read-on ∙ ap (onFlag key rdata w type) b)
 
+pub two-there : (rest : List ℕ) → T (isLo (take 2 rest)) → 2 ≤ length rest
+unfolding isLo
+two-there [] t = absurd t
+two-there (a ∷ []) t = absurd t
+two-there (a ∷ b ∷ rest) t = omega arith
+
 -- ttl begins within the data
 pub ttl-inside : (rdata : List ℕ) (f : Flag) (lo : Lo) (at : ℕ) → 3 ≤ length rdata → f ≡ flagIn rdata → f ≡ Flag.Whole lo at → at ≤ length rdata
 ttl-inside rdata f lo at l e b = go f e b
   where
     Within : Flag → Type 0
     Within f = (lo : Lo) (at : ℕ) → f ≡ Flag.Whole lo at → at ≤ length rdata
-
-    two-there : (rest : List ℕ) → T (isLo (take 2 rest)) → 2 ≤ length rest
-    two-there [] t = unfold isLo in absurd t
-    two-there (a ∷ []) t = unfold isLo in absurd t
-    two-there (a ∷ b ∷ rest) t = omega arith
 
     go : (f : Flag) → f ≡ flagIn rdata → f ≡ Flag.Whole lo at → at ≤ length rdata
     go f e b = unfold flagIn flagBy loFlag in
@@ -137,7 +138,7 @@ ttl-inside rdata f lo at l e b = go f e b
 
 -- the fixed fields are there
 module _ (key rdata : List ℕ) (w : Bool) (type : ℕ) where
-  behind-fixed : (lo : Lo) (at : ℕ) → fixedIn (seenWith w type (at + 12) (sharedIn lo (drop at rdata))) ≤ length rdata
+  pub behind-fixed : (lo : Lo) (at : ℕ) → fixedIn (seenWith w type (at + 12) (sharedIn lo (drop at rdata))) ≤ length rdata
   unfolding seenWith sharedIn fixedIn
   behind-fixed lo at =
       pick-ok (λ f. fixedIn (seenWith w type (at + 12) f) ≤ length rdata) _

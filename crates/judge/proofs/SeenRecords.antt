@@ -1,11 +1,11 @@
 -- What the code answers of one record means what the rules read.
-use mathlib.Core.Path.{_≡_, refl}
-use mathlib.Core.Bool.{Bool, true, false, not}
+use mathlib.Core.Path.{_≡_, refl, _∙_, sym}
+use mathlib.Core.Bool.{Bool, true, false, not, _||_}
 use mathlib.Core.List.{List, [], _∷_}
 use Prim.Native.Nat.{ℕ, _+_, _-_, _<_, _≤_}
 use native.Mathlib.Omega.{arith}
 use borrow.Author.Needs.{needs}
-use borrow.Author.Tests.{ne-eqb, le-leb, lt-leb, lt-ltb, le-ltb, not-true, not-false}
+use borrow.Author.Tests.{eqb-true, ne-eqb, le-leb, lt-leb, lt-ltb, le-ltb, not-true, not-false}
 use lib.ListN.{length, take, drop, getD}
 use lib.Dec.{eqb}
 use Rattle.rules.specs.declared.quantities.Lo.{Lo}
@@ -57,36 +57,36 @@ pub ruleset behind·laws = (needs, fields-broken, fields-there)
 
 -- ---- lo behind the flag
 
-module _ (rdata : List ℕ) where
-  short-lo : (rdata : List ℕ) → 3 ≤ length rdata → length rdata < 5 → isLo (take 2 (drop 3 rdata)) ≡ false
-  unfolding isLo
-  short-lo [] l h = absurd (omega arith)
-  short-lo (a ∷ []) l h = absurd (omega arith)
-  short-lo (a ∷ b ∷ []) l h = absurd (omega arith)
-  short-lo (a ∷ b ∷ c ∷ []) l h = refl
-  short-lo (a ∷ b ∷ c ∷ d ∷ []) l h = refl
-  short-lo (a ∷ b ∷ c ∷ d ∷ e ∷ r) l h = absurd (omega arith)
+short-lo : (rdata : List ℕ) → 3 ≤ length rdata → length rdata < 5 → isLo (take 2 (drop 3 rdata)) ≡ false
+unfolding isLo
+short-lo [] l h = absurd (omega arith)
+short-lo (a ∷ []) l h = absurd (omega arith)
+short-lo (a ∷ b ∷ []) l h = absurd (omega arith)
+short-lo (a ∷ b ∷ c ∷ []) l h = refl
+short-lo (a ∷ b ∷ c ∷ d ∷ []) l h = refl
+short-lo (a ∷ b ∷ c ∷ d ∷ e ∷ r) l h = absurd (omega arith)
 
+two : (rdata : List ℕ) → 5 ≤ length rdata → take 2 (drop 3 rdata) ≡ getD rdata 3 0 ∷ getD rdata 4 0 ∷ []
+two [] l = absurd (omega arith)
+two (a ∷ []) l = absurd (omega arith)
+two (a ∷ b ∷ []) l = absurd (omega arith)
+two (a ∷ b ∷ c ∷ []) l = absurd (omega arith)
+two (a ∷ b ∷ c ∷ d ∷ []) l = absurd (omega arith)
+two (a ∷ b ∷ c ∷ d ∷ e ∷ r) l = refl
+
+pub code : (rdata : List ℕ) → 5 ≤ length rdata → loIn (drop 3 rdata) ≡ Lo.Code (getD rdata 3 0) (getD rdata 4 0)
+unfolding loIn
+code [] l = absurd (omega arith)
+code (a ∷ []) l = absurd (omega arith)
+code (a ∷ b ∷ []) l = absurd (omega arith)
+code (a ∷ b ∷ c ∷ []) l = absurd (omega arith)
+code (a ∷ b ∷ c ∷ d ∷ []) l = absurd (omega arith)
+code (a ∷ b ∷ c ∷ d ∷ e ∷ r) l = refl
+
+module _ (rdata : List ℕ) where
   pub lo-short : 3 ≤ length rdata → length rdata < 5 → Flag.Broken ≡ loFlag rdata
   unfolding loFlag pick
   lo-short l h = rw (short-lo rdata l h)
-
-  two : (rdata : List ℕ) → 5 ≤ length rdata → take 2 (drop 3 rdata) ≡ getD rdata 3 0 ∷ getD rdata 4 0 ∷ []
-  two [] l = absurd (omega arith)
-  two (a ∷ []) l = absurd (omega arith)
-  two (a ∷ b ∷ []) l = absurd (omega arith)
-  two (a ∷ b ∷ c ∷ []) l = absurd (omega arith)
-  two (a ∷ b ∷ c ∷ d ∷ []) l = absurd (omega arith)
-  two (a ∷ b ∷ c ∷ d ∷ e ∷ r) l = refl
-
-  code : (rdata : List ℕ) → 5 ≤ length rdata → loIn (drop 3 rdata) ≡ Lo.Code (getD rdata 3 0) (getD rdata 4 0)
-  unfolding loIn
-  code [] l = absurd (omega arith)
-  code (a ∷ []) l = absurd (omega arith)
-  code (a ∷ b ∷ []) l = absurd (omega arith)
-  code (a ∷ b ∷ c ∷ []) l = absurd (omega arith)
-  code (a ∷ b ∷ c ∷ d ∷ []) l = absurd (omega arith)
-  code (a ∷ b ∷ c ∷ d ∷ e ∷ r) l = refl
 
   module _ (l : 5 ≤ length rdata) (v : Bool) (o : v ≡ isLo (getD rdata 3 0 ∷ getD rdata 4 0 ∷ [])) where
     pub no-lo : not v ≡ true → Flag.Broken ≡ loFlag rdata
@@ -124,12 +124,20 @@ module _ (rdata : List ℕ) where
   unfolding flagIn flagBy pick
   greater f e q = rw e q
 
-  pub plus : (f : Flag) → getD rdata 2 0 ≡ 43 → f ≡ loFlag rdata → f ≡ flagIn rdata
-  unfolding flagIn flagBy pick
-  plus f e q = rw e q
+  module _ (w : Bool) (q : w ≡ wildcardFlag (getD rdata 2 0)) where
+    pub plus : (f : Flag) → w ≡ true → (getD rdata 2 0 ≡ 42 → ⊥) → f ≡ loFlag rdata → f ≡ flagIn rdata
+    unfolding flagIn flagBy pick wildcardFlag
+    plus f y n p =
+        let e : getD rdata 2 0 ≡ 43 = eqb-true (getD rdata 2 0) 43 (rw (ne-eqb _ _ n) at (sym q ∙ y)) in
+        rw e p
 
-  pub no-flag : (getD rdata 2 0 ≡ 61 → ⊥) → (getD rdata 2 0 ≡ 62 → ⊥) → (getD rdata 2 0 ≡ 42 → ⊥) → (getD rdata 2 0 ≡ 43 → ⊥) → Flag.Broken ≡ flagIn rdata
-  unfolding flagIn flagBy pick
-  no-flag a b c d = rw (ne-eqb _ _ a, ne-eqb _ _ b, ne-eqb _ _ c, ne-eqb _ _ d)
+    pub no-flag : w ≡ false → (getD rdata 2 0 ≡ 61 → ⊥) → (getD rdata 2 0 ≡ 62 → ⊥) → Flag.Broken ≡ flagIn rdata
+    unfolding flagIn flagBy pick wildcardFlag
+    no-flag y a b = go (eqb (getD rdata 2 0) 42) (eqb (getD rdata 2 0) 43) (sym q ∙ y)
+      where
+        go : (c d : Bool) → (c || d) ≡ false → Flag.Broken ≡ pick (eqb (getD rdata 2 0) 61 || c) (Flag.Whole Lo.Every 3) (pick (eqb (getD rdata 2 0) 62 || d) (loFlag rdata) Flag.Broken)
+        go false false z = unfold pick in rw (ne-eqb _ _ a, ne-eqb _ _ b)
+        go true d z = let y : _≡_ {A = ℕ} 0 1 = cc in absurd (omega arith)
+        go false true z = let y : _≡_ {A = ℕ} 0 1 = cc in absurd (omega arith)
 
 pub ruleset flag·laws = (needs, equals, greater, star, plus, no-flag)

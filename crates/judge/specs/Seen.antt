@@ -1,6 +1,6 @@
 -- What the code answers of one record, and the record that it means.
-use Prim.Native.Nat.{ℕ}
-use mathlib.Core.Bool.{Bool, _&&_, _||_}
+use Prim.Native.Nat.{ℕ, _+_, _*_}
+use mathlib.Core.Bool.{Bool, true, false, _&&_, _||_}
 use mathlib.Core.List.{List, _∷_}
 use mathlib.Core.Option.{Option, none, some}
 use lib.ListN.{length, take, drop, getD}
@@ -59,3 +59,16 @@ flagBy flag rdata = pick (eqb flag 61 || eqb flag 42) (Flag.Whole Lo.Every 3) (p
 
 unfoldable pub flagIn : List ℕ → Flag
 flagIn rdata = flagBy (getD rdata 2 0) rdata
+
+unfoldable pub isWhole : Flag → Bool
+isWhole Flag.Broken = false
+isWhole (Flag.Whole lo at) = true
+
+-- ---- data with an owner's key that is not looked at
+
+unfoldable pub seenFlag : Bool → ℕ → List ℕ → Flag → Seen
+seenFlag wild type rdata Flag.Broken = Seen.Broken
+seenFlag wild type rdata (Flag.Whole lo at) = seenWith wild type (at + 12) (sharedIn lo (drop at rdata))
+
+unfoldable pub seenIn : List ℕ → Seen
+seenIn rdata = seenFlag (wildcardFlag (getD rdata 2 0)) (getD rdata 0 0 * 256 + getD rdata 1 0) rdata (flagIn rdata)

@@ -10,7 +10,6 @@ use Rattle.rules.specs.Lists.{pick}
 use Rattle.rules.specs.Names.{isWire}
 use Rattle.rules.specs.Bytes.{wild}
 use Rattle.rules.specs.Reading.{lowered, ordinaryKey, wildcardKey}
-use Rattle.rules.proofs.Names.{short-of}
 use Rattle.keys.specs.Keys.{goodKey}
 
 module _ (key : List ℕ) (t : Bool) (q : t ≡ isWire key) where
@@ -18,9 +17,6 @@ module _ (key : List ℕ) (t : Bool) (q : t ≡ isWire key) where
   unfolding goodKey ordinaryKey wildcardKey pick
   no-name true n = rw (← q, not-true t n)
   no-name false n = rw (← q, not-true t n)
-
-  pub name-short : not t ≡ false → length key ≤ 255
-  name-short n = short-of key (rw (← q, not-false t n) tt)
 
   module _ (n : not t ≡ false) (u : Bool) (p : u ≡ lowered key) where
     pub not-lowered : (w : Bool) → not u ≡ true → false ≡ goodKey w key
@@ -40,4 +36,4 @@ module _ (key : List ℕ) (t : Bool) (q : t ≡ isWire key) where
     unfolding goodKey wildcardKey pick
     wild-key w m e h = rw (not-false w e, ← q, not-false t n, ← p, not-false u m, le-leb (length key) 253 h)
 
-pub ruleset key·laws = (needs, name-short, no-name, not-lowered, plain-key, key-long, wild-key)
+pub ruleset key·laws = (needs, no-name, not-lowered, plain-key, key-long, wild-key)

@@ -15,7 +15,6 @@ use Rattle.rules.specs.Fields.{letter}
 use Rattle.rules.specs.Bytes.{wild}
 use Rattle.rules.specs.Reading.{lowered, isLo}
 use Rattle.wire.proofs.Steps.{left-at}
-use Rattle.keys.specs.Keys.{upperCount}
 
 -- a test that says what another does
 eqb-is : (a b : ℕ) (t : Bool) → (t ≡ true → a ≡ b) → (t ≡ false → a ≡ b → ⊥) → t ≡ eqb a b
@@ -75,51 +74,6 @@ module _ (name : List ℕ) (i : ℕ) (e : labels 0 (drop i name) ≡ isWire name
   unclosed h = rw (drop-of-length-le name h) at e
 
 pub ruleset wire·laws = (needs, too-long, short-enough, closed, label-long, label-passed, unclosed)
-
--- a byte of A to Z
-module _ (b : ℕ) where
-  pub below-upper : b < 65 → 0 ≡ upperCount b
-  unfolding upperCount pick
-  below-upper h = rw (lt-leb _ _ h)
-
-  pub above-upper : 90 < b → 0 ≡ upperCount b
-  unfolding upperCount pick
-  above-upper h = rw (le-leb 65 b (omega arith), lt-leb _ _ h)
-
-  pub upper-is : 65 ≤ b → b ≤ 90 → 1 ≡ upperCount b
-  unfolding upperCount pick
-  upper-is h g = rw (le-leb _ _ h, le-leb _ _ g)
-
-pub ruleset upper·laws = (needs, below-upper, above-upper, upper-is)
-
--- none so far and none from here on is none
-pub none-so-far : (key : List ℕ) → (eqb 0 0 && lowered (drop 0 key)) ≡ lowered key
-none-so-far key = refl
-
-module _ (key : List ℕ) (i k : ℕ) (e : (eqb k 0 && lowered (drop i key)) ≡ lowered key) where
-  module _ (c : ℕ) (q : c ≡ upperCount (getD key i 0)) (h : i < length key) where
-    left : (eqb k 0 && (not (leb 65 (getD key i 0) && leb (getD key i 0) 90) && lowered (drop (i + 1) key))) ≡ lowered key
-    unfolding lowered all
-    left = rw (left-at key i h) at e
-
-    pub one-counted : (eqb (k + c) 0 && lowered (drop (i + 1) key)) ≡ lowered key
-    unfolding upperCount
-    one-counted = go (leb 65 (getD key i 0) && leb (getD key i 0) 90) q left
-      where
-        go : (t : Bool) → c ≡ pick t 1 0 → (eqb k 0 && (not t && lowered (drop (i + 1) key))) ≡ lowered key → (eqb (k + c) 0 && lowered (drop (i + 1) key)) ≡ lowered key
-        go true q e =
-            let p : c ≡ 1 = unfold pick in q in
-            rw (ne-eqb (k + c) 0 (λ z. omega arith)) (sym (and-false (eqb k 0)) ∙ e)
-        go false q e =
-            let p : c ≡ 0 = unfold pick in q in
-            let s : k + c ≡ k = omega arith in
-            rw s e
-
-  pub all-counted : length key ≤ i → eqb k 0 ≡ lowered key
-  unfolding lowered all
-  all-counted h = rw (drop-of-length-le key h, and-true) at e
-
-pub ruleset lowered·laws = (needs, none-so-far, one-counted, all-counted)
 
 -- the label `*` in front
 pub one-byte : (key : List ℕ) → length key < 2 → false ≡ wild key

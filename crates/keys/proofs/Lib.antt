@@ -1,2 +1,3 @@
-pub mod Labels
 pub mod GoodKeys
+pub mod Labels
+pub mod Lowered

@@ -1,13 +1,13 @@
 // Names on the wire, as keys and questions have them, and lo.
 ghost use mathlib.Core.Path.{_≡_};
 ghost use mathlib.Core.List.{[], _∷_};
-ghost use Prim.Native.Nat.{_≤_};
-ghost use lib.ListN.{length};
+ghost use mathlib.Core.Bool.{_&&_};
+ghost use lib.Dec.{leb};
 ghost use Rattle.rules.specs.Names.{isWire};
 ghost use Rattle.rules.specs.Fields.{letter};
 ghost use Rattle.rules.specs.Bytes.{wild};
 ghost use Rattle.rules.specs.Reading.{lowered, isLo};
-ghost use Rattle.keys.specs.Keys.{goodKey, upperCount};
+ghost use Rattle.keys.specs.Keys.{goodKey};
 use wire::get::wide;
 
 // Whether bytes are a name on the wire. It goes from label to label.
@@ -32,33 +32,52 @@ pub fn is_wire(name: &[u8]) -> bool
     false
 }
 
-// 1 for one of A to Z, 0 for any other byte.
-fn upper(b: u8) -> u8
-    ensures { λ r. ⌜ r ≡ upperCount b ⌝ }
-    ensures { λ r. ⌜ r ≤ 1 ⌝ }
+// Whether a byte is one of A to Z.
+fn is_upper(b: u8) -> bool
+    ensures { λ r. ⌜ r ≡ (leb 65 b && leb b 90) ⌝ }
 {
     if b < 65 {
-        return 0;
+        return false;
     }
-    if 90 < b {
-        return 0;
-    }
-    1
+    b <= 90
 }
 
-// Whether bytes are free of A to Z. All are counted: without a way out the loop takes many bytes at a time, and so it does by a sum of one byte.
+// Whether a part of a key is free of A to Z. Each byte is looked at: a loop without a way out takes many bytes at a time.
+fn is_lowered_part(part: &[u8]) -> bool
+    ensures { λ r. ⌜ r ≡ lowered (now (part .entry)) ⌝ }
+{
+    let n = part.len();
+    let mut low = true;
+    let mut i: usize = 0;
+    while i < n {
+        if is_upper(part[i]) {
+            low = false;
+            i += 1;
+        } else {
+            i += 1;
+        }
+    }
+    low
+}
+
+// Whether bytes are free of A to Z. They are taken by 16, for which no loop is left, and the last 16 may have been looked at before.
 fn is_lowered(key: &[u8]) -> bool
-    requires { ⌜ length (now key) ≤ 255 ⌝ }
     ensures { λ r. ⌜ r ≡ lowered (now (key .entry)) ⌝ }
 {
     let n = key.len();
-    let mut uppers: u8 = 0;
-    let mut i: usize = 0;
-    while i < n {
-        uppers += upper(key[i]);
-        i += 1;
+    if n < 16 {
+        return is_lowered_part(key);
     }
-    uppers == 0
+    let mut i: usize = 0;
+    while 16 < n - i {
+        let next = i + 16;
+        if !is_lowered_part(&key[i..next]) {
+            return false;
+        }
+        i = next;
+    }
+    let last = n - 16;
+    is_lowered_part(&key[last..])
 }
 
 // Whether the first label of a name is just `*`.

@@ -47,6 +47,11 @@ whole-at stream at span i e =
     let o = onto-some _ _ (rw (i .says) at e) in
     record { rec = o .rec; read = o .first; more = ap (valueOr []) (i .says) ∙ o .both; rest = o .rest }
 
+pub record-whole : (stream : List ℕ) (at : ℕ) (span : Span) → IsSpan stream at span → isSome (decode (drop at stream)) ≡ true
+    → isSome (recordIn (take (span .middle - span .start) (drop (span .start) stream)) (take (span .next - span .middle) (drop (span .middle) stream))) ≡ true
+unfolding isSome
+record-whole stream at span i e = ap isSome (whole-at stream at span i e .read)
+
 pub rest-whole : (stream : List ℕ) (at : ℕ) (span : Span) → IsSpan stream at span → isSome (decode (drop at stream)) ≡ true → isSome (decode (drop (span .next) stream)) ≡ true
 rest-whole stream at span i e = whole-at stream at span i e .rest
 
@@ -93,4 +98,4 @@ most name here moment stream best at all w e h =
 pub none-yet : (n : ℕ) → max 0 n ≡ n
 none-yet n = omega arith
 
-pub ruleset best·laws = (needs, none-yet, rest-whole, larger, no-larger, largest-found, most)
+pub ruleset best·laws = (needs, none-yet, record-whole, rest-whole, larger, no-larger, largest-found, most)

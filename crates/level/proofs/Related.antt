@@ -2,7 +2,7 @@
 use mathlib.Core.Path.{_≡_, refl, _∙_, sym}
 use mathlib.Core.Bool.{Bool, true, false, not, _||_}
 use mathlib.Core.List.{List, [], _∷_, map}
-use Prim.Native.Nat.{ℕ, zero, suc, _-_, _<_, _≤_}
+use Prim.Native.Nat.{ℕ, zero, suc, _-_, _<_}
 use native.Mathlib.Omega.{arith}
 use borrow.Author.Needs.{needs}
 use borrow.Author.Tests.{not-true, not-false}
@@ -13,8 +13,8 @@ use Rattle.rules.specs.Questions.{ancestorsFrom, ancestors}
 use Rattle.rules.proofs.Lists.{same-length}
 use Rattle.wire.proofs.Parts.{tail-lent}
 use Rattle.wire.proofs.Compare.{other-length-lowered}
-use Rattle.level.specs.Ranks.{among}
-use Rattle.level.proofs.Ranking.{drop-map, too-long}
+use Rattle.level.specs.Ranks.{among, endsIn}
+use Rattle.level.proofs.Ranking.{drop-map}
 
 -- ---- the end of a name
 
@@ -42,34 +42,45 @@ ends-in (suc k) [] key t = absurd t
 ends-in (suc zero) (b ∷ n) key t = one-more n key b (either n key (sameBytes key n) (among key (ancestorsFrom zero n)) t (whole-name n key) (ends-in zero n key))
 ends-in (suc (suc k)) (b ∷ n) key t = one-more n key b (ends-in (suc k) n key t)
 
+pub not-end : (n key : List ℕ) → endsIn n key ≡ false → false ≡ (sameBytes key n || among key (ancestors n))
+unfolding endsIn
+not-end n key e = go (sameBytes key n) (among key (ancestors n)) refl refl
+  where
+    contradicts : T (sameBytes key (drop (length n - length key) n)) → ⊥
+    contradicts t = rw e at t
+
+    go : (a b : Bool) → sameBytes key n ≡ a → among key (ancestors n) ≡ b → false ≡ (a || b)
+    go false false p r = refl
+    go true b p r = absurd (contradicts (whole-name n key (rw p tt)))
+    go false true p r = absurd (contradicts (ends-in 0 n key (unfold ancestors in rw r tt)))
+
 -- ---- the code's tests
 
 module _ (name key : List ℕ) where
-  pub longer : length name < length key → false ≡ (sameBytes key (map lower name) || among key (ancestors (map lower name)))
-  longer h = rw (← (other-length-lowered key name (λ e. omega arith)), ← (too-long name key (omega arith)))
+  pub longer : length name < length key → false ≡ endsIn (map lower name) key
+  unfolding endsIn
+  longer h =
+      let l : length (map lower name) - length key ≡ 0 = omega (arith, length-map name lower) in
+      rw l (other-length-lowered key name (λ e. omega arith))
 
-  module _ (h : length key ≤ length name) (t : Bool) (q : t ≡ sameBytes key (map lower (take (length name - (length name - length key)) (drop (length name - length key) name)))) where
-    tail : sameBytes key (drop (length (map lower name) - length key) (map lower name)) ≡ t
-    tail = sym (q ∙ rw (tail-lent name (length name - length key), ← (drop-map lower (length name - length key) name), length-map name lower))
+  pub tail : (t : Bool) → t ≡ sameBytes key (map lower (take (length name - (length name - length key)) (drop (length name - length key) name))) → t ≡ endsIn (map lower name) key
+  unfolding endsIn
+  tail t q = q ∙ rw (tail-lent name (length name - length key), ← (drop-map lower (length name - length key) name), length-map name lower)
 
-    contradicts : not t ≡ true → T (sameBytes key (drop (length (map lower name) - length key) (map lower name))) → ⊥
-    contradicts n u = rw (tail, not-true t n) at u
-
+  module _ (t : Bool) (q : t ≡ endsIn (map lower name) key) where
     pub other-end : not t ≡ true → false ≡ (sameBytes key (map lower name) || among key (ancestors (map lower name)))
-    other-end n = go (sameBytes key (map lower name)) (among key (ancestors (map lower name))) refl refl
-      where
-        go : (a b : Bool) → sameBytes key (map lower name) ≡ a → among key (ancestors (map lower name)) ≡ b → false ≡ (a || b)
-        go false false p r = refl
-        go true b p r = absurd (contradicts n (whole-name (map lower name) key (rw p tt)))
-        go false true p r = absurd (contradicts n (ends-in 0 (map lower name) key (unfold ancestors in rw r tt)))
+    other-end n = not-end (map lower name) key (sym q ∙ not-true t n)
 
-    pub same-end : not t ≡ false → length name - length key ≡ 0 → true ≡ (sameBytes key (map lower name) || among key (ancestors (map lower name)))
+    pub same-end : not t ≡ false → length name ≡ length key → true ≡ (sameBytes key (map lower name) || among key (ancestors (map lower name)))
+    unfolding endsIn
     same-end n z =
         let l : length (map lower name) - length key ≡ 0 = omega (arith, length-map name lower) in
-        let s : sameBytes key (map lower name) ≡ true = rw l at (tail ∙ not-false t n) in
+        let s : sameBytes key (map lower name) ≡ true = rw l at (sym q ∙ not-false t n) in
         rw s
 
-  pub shorter-end : (u : Bool) → length key ≤ length name → (length name - length key ≡ 0 → ⊥) → u ≡ among key (ancestors (map lower name)) → u ≡ (sameBytes key (map lower name) || among key (ancestors (map lower name)))
-  shorter-end u h z e = rw (← (other-length-lowered key name (λ e. z (omega arith))), ← e)
+  pub shorter-end : (u : Bool) → (length name ≡ length key → ⊥) → u ≡ among key (ancestors (map lower name)) → u ≡ (sameBytes key (map lower name) || among key (ancestors (map lower name)))
+  shorter-end u z e = rw (← (other-length-lowered key name (λ e. z (sym e))), ← e)
 
-pub ruleset related·laws = (needs, longer, other-end, same-end, shorter-end)
+pub ruleset end·laws = (needs, longer, tail)
+
+pub ruleset related·laws = (needs, other-end, same-end, shorter-end)

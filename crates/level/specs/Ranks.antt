@@ -1,9 +1,9 @@
 -- The level of a question by numbers: the rank of each record, and the records of the largest rank.
-use Prim.Native.Nat.{ℕ, max}
+use Prim.Native.Nat.{ℕ, _-_, max}
 use mathlib.Core.Bool.{Bool, false, _||_}
 use mathlib.Core.List.{List, [], _∷_}
 use mathlib.Core.Option.{Option, none, some}
-use lib.ListN.{length}
+use lib.ListN.{length, drop}
 use lib.Dec.{eqb}
 use Rattle.rules.specs.Lists.{pick, keep, sameBytes}
 use Rattle.rules.specs.Records.{Record}
@@ -32,6 +32,10 @@ module _ {A : Type 0} where
 unfoldable pub among : List ℕ → List (List ℕ) → Bool
 among key [] = false
 among key (a ∷ names) = sameBytes key a || among key names
+
+-- whether a name ends in a key; so it does in those that can answer for it
+unfoldable pub endsIn : List ℕ → List ℕ → Bool
+endsIn name key = sameBytes key (drop (length name - length key) name)
 
 unfoldable pub keyRank : List ℕ → List ℕ → Bool → ℕ
 keyRank name key wild = pick wild (pick (among key (ancestors name)) (length key) 0) (pick (sameBytes key name) 256 0)

@@ -10,9 +10,9 @@ ghost use Rattle.rules.specs.Names.{isWire};
 ghost use Rattle.rules.specs.Records.{loBytes};
 ghost use Rattle.rules.specs.Questions.{ancestors};
 ghost use Rattle.rules.specs.Reading.{recordIn, decode};
-ghost use Rattle.level.specs.Ranks.{among, keyRank, rankIn, seenRank, largest};
+ghost use Rattle.level.specs.Ranks.{among, endsIn, keyRank, rankIn, seenRank, largest};
 use judge::Seen;
-use judge::record_in;
+use judge::known_in;
 use rules::quantities::Lo;
 use stream::span_at;
 use view::visible;
@@ -77,19 +77,26 @@ fn is_ancestor(name: &[u8], key: &[u8]) -> bool
     false
 }
 
-// Whether a record of this key can answer for a name at all. Then the name ends in the key; most keys are told by a byte.
-pub fn is_related(name: &[u8], key: &[u8]) -> bool
-    ensures { λ r. ⌜ r ≡ (sameBytes (now (key .entry)) (map lower (now (name .entry))) || among (now (key .entry)) (ancestors (map lower (now (name .entry))))) ⌝ }
+// Whether a name ends in a key, as it does in those that can answer for it. Most keys are told by a byte.
+pub fn is_end(name: &[u8], key: &[u8]) -> bool
+    ensures { λ r. ⌜ r ≡ endsIn (map lower (now (name .entry))) (now (key .entry)) ⌝ }
 {
     let n = name.len();
     if n < key.len() {
         return false;
     }
     let front = n - key.len();
-    if !same_lowered(key, &name[front..]) {
+    same_lowered(key, &name[front..])
+}
+
+// Whether a record of this key can answer for a name at all.
+fn is_related(name: &[u8], key: &[u8]) -> bool
+    ensures { λ r. ⌜ r ≡ (sameBytes (now (key .entry)) (map lower (now (name .entry))) || among (now (key .entry)) (ancestors (map lower (now (name .entry))))) ⌝ }
+{
+    if !is_end(name, key) {
         return false;
     }
-    if front == 0 {
+    if name.len() == key.len() {
         return true;
     }
     is_ancestor(name, key)
@@ -113,12 +120,13 @@ fn rank(name: &[u8], key: &[u8], wild: bool) -> usize
 
 // The rank of a record that a client who is here sees at a moment, 0 for any other. The key alone rules most records out.
 pub fn rank_in(name: &[u8], here: Lo, moment: u64, key: &[u8], rdata: &[u8]) -> usize
+    requires { ⌜ isSome (recordIn (now key) (now rdata)) ≡ true ⌝ }
     ensures { λ r. ⌜ r ≡ rankIn (map lower (now (name .entry))) (loBytes here) moment (recordIn (now (key .entry)) (now (rdata .entry))) ⌝ }
 {
     if !is_related(name, key) {
         return 0;
     }
-    match record_in(key, rdata) {
+    match known_in(key, rdata) {
         Seen::Broken => 0,
         Seen::Location(_) => 0,
         Seen::Resource {

@@ -1,6 +1,6 @@
 -- The records before the first that can answer are passed over: none has a rank, so none is of any level.
 use mathlib.Core.Path.{_≡_, refl, _∙_, sym}
-use mathlib.Core.Bool.{Bool, true, false, not, _&&_, _||_}
+use mathlib.Core.Bool.{Bool, true, false, not, _&&_}
 use mathlib.Core.List.{List, []}
 use Prim.Native.Nat.{ℕ, _-_, max}
 use native.Mathlib.Omega.{arith}
@@ -8,13 +8,13 @@ use borrow.Author.Needs.{needs}
 use borrow.Author.Tests.{eq-eqb, ne-eqb, eqb-true}
 use lib.ListN.{take, drop}
 use lib.Dec.{eqb}
-use Rattle.rules.specs.Lists.{pick, sameBytes, valueOr}
-use Rattle.rules.specs.Questions.{ancestors}
+use Rattle.rules.specs.Lists.{pick, valueOr}
 use Rattle.rules.specs.Reading.{recordIn, decode}
 use Rattle.stream.specs.declared.Span.{Span}
 use Rattle.stream.specs.Spans.{IsSpan}
-use Rattle.level.specs.Ranks.{among, rankIn, largest, seenRank}
+use Rattle.level.specs.Ranks.{endsIn, rankIn, largest, seenRank}
 use Rattle.level.proofs.KeyRanks.{unrelated}
+use Rattle.level.proofs.Related.{not-end}
 use Rattle.level.proofs.Bests.{rest-whole, no-larger}
 use Rattle.locate.specs.Skips.{Skips, skipped}
 use Rattle.picks.proofs.Picking.{other-rank, not-picked}
@@ -26,7 +26,7 @@ module _ (name key : List ℕ) (from at next : ℕ) where
   unfolding skipped pick
   met n = rw (ne-eqb from at n)
 
-  module _ (e : from ≡ at) (t : Bool) (q : t ≡ (sameBytes key name || among key (ancestors name))) where
+  module _ (e : from ≡ at) (t : Bool) (q : t ≡ endsIn name key) where
     pub meets : t ≡ true → from ≡ skipped name key from at next
     unfolding skipped pick
     meets y = rw (eq-eqb from at e, ← q, y)
@@ -53,9 +53,9 @@ module _ (name stream : List ℕ) where
     abbrev rdata : List ℕ
     rdata = take (span .next - span .middle) (drop (span .middle) stream)
 
-    module _ (u : (sameBytes key name || among key (ancestors name)) ≡ false) where
+    module _ (u : endsIn name key ≡ false) where
       no-rank : (here : List ℕ) (moment : ℕ) → 0 ≡ rankIn name here moment (recordIn key rdata)
-      no-rank here moment = unrelated name here moment key rdata false (sym u) refl
+      no-rank here moment = unrelated name here moment key rdata false (not-end name key u) refl
 
       past : Skips name stream (span .next)
       past = record {
@@ -72,12 +72,12 @@ module _ (name stream : List ℕ) where
 pub skips-more : (name stream : List ℕ) (from at : ℕ) (span : Span) (r : ℕ) → Skips name stream from → IsSpan stream at span
     → r ≡ skipped name (take (span .middle - span .start) (drop (span .start) stream)) from at (span .next) → Skips name stream r
 unfolding skipped pick
-skips-more name stream from at span r s i e = go (eqb from at) (sameBytes key′ name || among key′ (ancestors name)) refl refl e
+skips-more name stream from at span r s i e = go (eqb from at) (endsIn name key′) refl refl e
   where
     key′ : List ℕ
     key′ = take (span .middle - span .start) (drop (span .start) stream)
 
-    go : (a b : Bool) → eqb from at ≡ a → (sameBytes key′ name || among key′ (ancestors name)) ≡ b → r ≡ pick (a && not b) (span .next) from → Skips name stream r
+    go : (a b : Bool) → eqb from at ≡ a → endsIn name key′ ≡ b → r ≡ pick (a && not b) (span .next) from → Skips name stream r
     go false b p q e = rw e s
     go true true p q e = rw e s
     go true false p q e = rw e (past name stream at (rw (eqb-true from at p) at s) span i q)

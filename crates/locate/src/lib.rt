@@ -9,7 +9,7 @@ ghost use Rattle.locate.specs.Locations.{bestSeen, betterIn, judgedLo, l
 ghost use Rattle.locate.specs.Skips.{Skips, skipped};
 use judge::Seen;
 use judge::record_in;
-use level::is_related;
+use level::is_end;
 use rules::quantities::Lo;
 use stream::span_at;
 use wire::get::begins_with;
@@ -64,14 +64,14 @@ fn better_in(client: &[u8], lo: Lo, least: usize, key: &[u8], rdata: &[u8]) -> L
     }
 }
 
-// Behind a record that can't answer for a name, as long as none that can has been met.
+// Behind a record whose key isn't the end of a name, and so can't answer for it, as long as none that is has been met.
 fn behind(name: &[u8], key: &[u8], from: usize, at: usize, next: usize) -> usize
     ensures { λ r. ⌜ r ≡ skipped (map lower (now (name .entry))) (now (key .entry)) from at next ⌝ }
 {
     if from != at {
         return from;
     }
-    if is_related(name, key) {
+    if is_end(name, key) {
         return from;
     }
     next

@@ -28,7 +28,7 @@ use Rattle.view.specs.Views.{sharing}
 use Rattle.level.specs.Ranks.{seenRank, rankIn}
 use Rattle.picks.specs.Picks.{wanted, wantedIn, replyIn, pickedFrom}
 use Rattle.judge.proofs.Shapes.{shaped, size-is}
-use Rattle.level.proofs.Bests.{Whole, whole-at, rest-whole}
+use Rattle.level.proofs.Bests.{Whole, whole-at, record-whole, rest-whole}
 
 -- ---- one record
 
@@ -181,4 +181,4 @@ module _ (type : ℕ) (name here : List ℕ) (moment best : ℕ) (stream : List 
   unfolding pickedFrom placedFrom keep valueOr replyOf
   none-left h = rw (drop-of-length-le stream h, decode-nil) at e
 
-pub ruleset pick·laws = (needs, rest-whole, data-inside, picked-here, picked-later, not-picked, none-left)
+pub ruleset pick·laws = (needs, record-whole, rest-whole, data-inside, picked-here, picked-later, not-picked, none-left)

@@ -9,7 +9,7 @@ ghost use Rattle.rules.specs.Records.{loBytes};
 ghost use Rattle.rules.specs.Reading.{recordIn, decode};
 ghost use Rattle.picks.specs.Picks.{wantedIn, replyIn, pickedFrom};
 use judge::Seen;
-use judge::record_in;
+use judge::known_in;
 use level::rank_in;
 use rules::quantities::Lo;
 use rules::replies::Reply;
@@ -26,12 +26,13 @@ fn is_wanted(
     key: &[u8],
     rdata: &[u8],
 ) -> bool
+    requires { ⌜ isSome (recordIn (now key) (now rdata)) ≡ true ⌝ }
     ensures { λ r. ⌜ r ≡ wantedIn qtype (map lower (now (name .entry))) (loBytes here) moment best (recordIn (now (key .entry)) (now (rdata .entry))) ⌝ }
 {
     if rank_in(name, here, moment, key, rdata) != best {
         return false;
     }
-    match record_in(key, rdata) {
+    match known_in(key, rdata) {
         Seen::Broken => false,
         Seen::Location(_) => false,
         Seen::Resource {
@@ -51,9 +52,10 @@ fn is_wanted(
 // What is answered of a record that ends at a place.
 fn reply_in(moment: u64, end: usize, key: &[u8], rdata: &[u8]) -> Reply
     requires { ⌜ length (now rdata) ≤ end ⌝ }
+    requires { ⌜ isSome (recordIn (now key) (now rdata)) ≡ true ⌝ }
     ensures { λ r. ⌜ r ≡ replyIn moment end (recordIn (now (key .entry)) (now (rdata .entry))) ⌝ }
 {
-    match record_in(key, rdata) {
+    match known_in(key, rdata) {
         Seen::Broken => Reply::NoMore,
         Seen::Location(_) => Reply::NoMore,
         Seen::Resource {

@@ -8,8 +8,8 @@ is-related-requires c κs = search rank-in·laws
 returns : tie.Need-returns
 returns c = search rank-in·laws
 
-record-in-requires : tie.Need-record-in-requires
-record-in-requires c κs = search rank-in·laws
+known-in-requires : tie.Need-known-in-requires
+known-in-requires c κs = search rank-in·laws
 
 enum-told : tie.Need-enum-told
 enum-told c = search rank-in·laws
@@ -44,7 +44,7 @@ rank-in-spec =
     (tie.spec
     is-related-requires
     returns
-    record-in-requires
+    known-in-requires
     enum-told
     enum-told-2
     enum-known-wild

@@ -8,8 +8,8 @@ rank-in-requires c κs = search wanted·laws
 returns : tie.Need-returns
 returns c = search wanted·laws
 
-record-in-requires : tie.Need-record-in-requires
-record-in-requires c κs = search wanted·laws
+known-in-requires : tie.Need-known-in-requires
+known-in-requires c κs = search wanted·laws
 
 enum-told : tie.Need-enum-told
 enum-told c = search wanted·laws
@@ -38,7 +38,7 @@ is-wanted-spec =
     (tie.spec
     rank-in-requires
     returns
-    record-in-requires
+    known-in-requires
     enum-told
     enum-told-2
     enum-known-rtype

@@ -2,8 +2,8 @@ use Rattle.picks.proofs.Picking.{reply·laws}
 use Rattle.picks.proofs.reply_in.Statement.{statement}
 use Rattle.picks.proofs.reply_in.Tie as tie
 
-record-in-requires : tie.Need-record-in-requires
-record-in-requires c κs = search reply·laws
+known-in-requires : tie.Need-known-in-requires
+known-in-requires c κs = search reply·laws
 
 enum-told : tie.Need-enum-told
 enum-told c = search reply·laws
@@ -36,7 +36,7 @@ pub reply-in-spec : {M : Type 1} → statement M
 reply-in-spec =
     tie.close
     (tie.spec
-    record-in-requires
+    known-in-requires
     enum-told
     enum-told-2
     enum-known-rtype

@@ -1,0 +1,32 @@
+use Rattle.judge.proofs.Known.{known-flag·laws}
+use Rattle.judge.proofs.known_flag.Statement.{statement}
+use Rattle.judge.proofs.known_flag.Tie as tie
+
+shared-slice-read-match : tie.Need-shared-slice-read-match
+shared-slice-read-match c = search known-flag·laws
+
+shared-slice-read-t9 : tie.Need-shared-slice-read-t9
+shared-slice-read-t9 c = search known-flag·laws
+
+shared-slice-read-t11 : tie.Need-shared-slice-read-t11
+shared-slice-read-t11 c = search known-flag·laws
+
+returns : tie.Need-returns
+returns c = search known-flag·laws
+
+returns-2 : tie.Need-returns-2
+returns-2 c = search known-flag·laws
+
+returns-3 : tie.Need-returns-3
+returns-3 c = search known-flag·laws
+
+pub known-flag-spec : {M : Type 1} → statement M
+known-flag-spec =
+    tie.close
+    (tie.spec
+    shared-slice-read-match
+    shared-slice-read-t9
+    shared-slice-read-t11
+    returns
+    returns-2
+    returns-3)

@@ -1,0 +1,12 @@
+use Rattle.keys.proofs.Lowered.{upper·laws}
+use Rattle.keys.proofs.is_upper.Statement.{statement}
+use Rattle.keys.proofs.is_upper.Tie as tie
+
+returns : tie.Need-returns
+returns c = search upper·laws
+
+returns-2 : tie.Need-returns-2
+returns-2 c = search upper·laws
+
+pub is-upper-spec : {M : Type 1} → statement M
+is-upper-spec = tie.close (tie.spec returns returns-2)
