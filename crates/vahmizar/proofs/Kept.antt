@@ -1,6 +1,6 @@
 -- The demands over the calls.
 use mathlib.Core.Path.{_≡_, refl, sym, ap, _∙_, subst}
-use mathlib.Core.Bool.{Bool, true, false, not}
+use mathlib.Core.Bool.{Bool, true, false, not, true≢false}
 use mathlib.Core.List.{List}
 use Prim.Native.Nat.{ℕ, _≤_}
 use native.Mathlib.Omega.{arith}
@@ -23,9 +23,6 @@ use Rattle.wire.proofs.Parts.{front-count}
 use Rattle.compiler.specs.Compiled.{IsCompiled}
 use Rattle.vahmizar.specs.declared.both.Outcome.{Outcome}
 use Rattle.vahmizar.specs.Promises.{laid, Compiles, Asks, Answered, TheCallRefusesExactly, Askable, Tells, Told, TheCallsKeepTheMeaning, Serves}
-
-false-true : false ≡ true → ⊥
-false-true e = subst (λ (b : Bool). T (not b)) e tt
 
 -- past the check of the answer's length
 past {ℓ} : {A : Type ℓ} (n : ℕ) (s : List ℕ) (x y z : A) → length s ≡ n → x ≡ pick (eqb (length s) n) y z → x ≡ y
@@ -80,19 +77,19 @@ the-calls-keep-the-meaning source serial out s out′ s′ r q ordinal t t′ m 
 done-is : (f : Fault) → isDone f ≡ true → f ≡ Fault.Done
 unfolding isDone
 done-is Fault.Done e = refl
-done-is Fault.SourceTooLong e = absurd (false-true e)
-done-is Fault.LineTooLong e = absurd (false-true e)
-done-is Fault.UnknownKind e = absurd (false-true e)
-done-is Fault.TooManyFields e = absurd (false-true e)
-done-is (Fault.Malformed FieldKind.Name) e = absurd (false-true e)
-done-is (Fault.Malformed FieldKind.Address) e = absurd (false-true e)
-done-is (Fault.Malformed FieldKind.Number) e = absurd (false-true e)
-done-is (Fault.Malformed FieldKind.Time) e = absurd (false-true e)
-done-is (Fault.Malformed FieldKind.Lo) e = absurd (false-true e)
-done-is (Fault.Malformed FieldKind.Escape) e = absurd (false-true e)
-done-is Fault.ReservedType e = absurd (false-true e)
-done-is (Fault.Empty kind) e = absurd (false-true e)
-done-is Fault.NoRoom e = absurd (false-true e)
+done-is Fault.SourceTooLong e = absurd (true≢false (sym e))
+done-is Fault.LineTooLong e = absurd (true≢false (sym e))
+done-is Fault.UnknownKind e = absurd (true≢false (sym e))
+done-is Fault.TooManyFields e = absurd (true≢false (sym e))
+done-is (Fault.Malformed FieldKind.Name) e = absurd (true≢false (sym e))
+done-is (Fault.Malformed FieldKind.Address) e = absurd (true≢false (sym e))
+done-is (Fault.Malformed FieldKind.Number) e = absurd (true≢false (sym e))
+done-is (Fault.Malformed FieldKind.Time) e = absurd (true≢false (sym e))
+done-is (Fault.Malformed FieldKind.Lo) e = absurd (true≢false (sym e))
+done-is (Fault.Malformed FieldKind.Escape) e = absurd (true≢false (sym e))
+done-is Fault.ReservedType e = absurd (true≢false (sym e))
+done-is (Fault.Empty kind) e = absurd (true≢false (sym e))
+done-is Fault.NoRoom e = absurd (true≢false (sym e))
 
 module _ (source : List ℕ) (serial : ℕ) (out out′ : List ℕ) (a : Answer) (done : Bool) (c : IsCompiled source serial out out′ a) (f : done ≡ isDone (a .fault)) where
   -- compiling is done exactly where the source is accepted and there is room
@@ -111,7 +108,7 @@ module _ (source : List ℕ) (serial : ℕ) (out out′ : List ℕ) (a : Answer)
       record {
         outcome = rw (← c .answer, d);
         output = c .output;
-        meaning = λ ok room askable. absurd (false-true (sym d ∙ accepted-done ok room));
+        meaning = λ ok room askable. absurd (true≢false (sym (accepted-done ok room) ∙ d));
       }
 
   module _ (t : not done ≡ false) where
