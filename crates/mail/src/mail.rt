@@ -32,14 +32,9 @@ fn put_exchanger(out: &mut [u8], line: HostLine, dist: u16) -> usize
     let host = line.host;
     let host_bytes = host.bytes;
     let host_len = host.len;
-    let used = put_mx(
-        out,
-        &owner_bytes[..owner_len],
-        shared,
-        dist,
-        &host_bytes[..host_len],
-    );
-    used + put_address(&mut out[used..], &host_bytes[..host_len], address, shared)
+    let name = &host_bytes[..host_len];
+    let used = put_mx(out, &owner_bytes[..owner_len], shared, dist, name);
+    used + put_address(&mut out[used..], name, address, shared)
 }
 
 pub fn put_mail_line(out: &mut [u8], rest: &[u8], spans: [Span; 11]) -> usize
