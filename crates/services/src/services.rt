@@ -42,6 +42,7 @@ fn put_service(
     let host = line.host;
     let host_bytes = host.bytes;
     let host_len = host.len;
+    let name = &host_bytes[..host_len];
     let used = put_srv(
         out,
         &owner_bytes[..owner_len],
@@ -49,9 +50,9 @@ fn put_service(
         priority,
         weight,
         port,
-        &host_bytes[..host_len],
+        name,
     );
-    used + put_address(&mut out[used..], &host_bytes[..host_len], address, shared)
+    used + put_address(&mut out[used..], name, address, shared)
 }
 
 pub fn put_service_line(out: &mut [u8], rest: &[u8], spans: [Span; 11]) -> usize

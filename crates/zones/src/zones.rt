@@ -39,14 +39,9 @@ fn put_server(out: &mut [u8], line: HostLine) -> usize
     let host = line.host;
     let host_bytes = host.bytes;
     let host_len = host.len;
-    let used = put_resource(
-        out,
-        &owner_bytes[..owner_len],
-        2,
-        shared,
-        &host_bytes[..host_len],
-    );
-    used + put_address(&mut out[used..], &host_bytes[..host_len], address, shared)
+    let name = &host_bytes[..host_len];
+    let used = put_resource(out, &owner_bytes[..owner_len], 2, shared, name);
+    used + put_address(&mut out[used..], name, address, shared)
 }
 
 // The seconds that the SOA of a zone line may be kept.
@@ -82,12 +77,13 @@ fn put_authority(out: &mut [u8], line: HostLine, serial: u32) -> usize
     let host = line.host;
     let host_bytes = host.bytes;
     let host_len = host.len;
-    let contact = read_contact(&owner_bytes[..owner_len]);
+    let name = &owner_bytes[..owner_len];
+    let contact = read_contact(name);
     let contact_bytes = contact.bytes;
     let contact_len = contact.len;
     put_soa(
         out,
-        &owner_bytes[..owner_len],
+        name,
         soa_shared(shared),
         &host_bytes[..host_len],
         &contact_bytes[..contact_len],
