@@ -83,18 +83,11 @@ fn put_back(out: &mut [u8], line: AddressLine) -> usize
     )
 }
 
-fn put_both(out: &mut [u8], line: AddressLine) -> usize
-    requires { ⌜ Holding line × (length (bytesOf (backRecords line)) ≤ length (now out)) ⌝ }
-    ensures { λ r. ⌜ IsPut (bytesOf (backRecords line)) (now (out .entry)) (now (out .exit)) r ⌝ }
-{
-    let used = put_alias(out, line);
-    used + put_back(&mut out[used..], line)
-}
-
 pub fn put_host_line(out: &mut [u8], rest: &[u8], spans: [Span; 11]) -> usize
     requires { ⌜ Ready Kind.Host (now rest) spans × (length (bytesOf (recordsOf 0 Kind.Host (splitOn 58 (now rest)))) ≤ length (now out)) ⌝ }
     ensures { λ r. ⌜ IsPut (bytesOf (recordsOf 0 Kind.Host (splitOn 58 (now (rest .entry))))) (now (out .entry)) (now (out .exit)) r ⌝ }
 {
     let line = address_line(rest, spans, Kind::Host);
-    put_both(out, line)
+    let used = put_alias(out, line);
+    used + put_back(&mut out[used..], line)
 }
