@@ -69,8 +69,6 @@ pub ruleset alias·laws = (needs, front-count)
 
 pub ruleset alias-line·laws = (needs, holding, room-of, put-of, alias-is)
 
-pub ruleset host-line·laws = (needs, holding, room-of, put-of, host-is)
-
 -- ---- the PTR
 
 module _ (l : AddressLine) (reverse : Name) (c : IsName (reverseName (heldAddress (l .address))) reverse) where
@@ -92,10 +90,16 @@ unfolding bytesOf joinAll
 bytes-append [] ss = refl
 bytes-append (r ∷ rs) ss = ap (λ (b : List ℕ). encode r ++ b) (bytes-append rs ss) ∙ sym (append-assoc (encode r) (bytesOf rs) (bytesOf ss))
 
-module _ (rs ss : List Record) (d : List ℕ) (room : length (bytesOf (rs ++ ss)) ≤ length d) where
-  pub front-room : length (bytesOf rs) ≤ length d
-  front-room = omega (arith, ap length (bytes-append rs ss), length-append (bytesOf rs) (bytesOf ss))
+pub alias-room : (s : List ℕ) (l : AddressLine) (n : ℕ) → IsAddressLine Kind.Host s l → length (bytesOf (recordsOf 0 Kind.Host (splitOn 58 s))) ≤ n → length (bytesOf (aliasRecords l)) ≤ n
+alias-room s l n p h =
+    omega (
+      arith,
+      room-of (backRecords l) (recordsOf 0 Kind.Host (splitOn 58 s)) (host-is s l p) n h,
+      ap length (bytes-append (aliasRecords l) (pointerRecord l ∷ [])),
+      length-append (bytesOf (aliasRecords l)) (bytesOf (pointerRecord l ∷ [])),
+    )
 
+module _ (rs ss : List Record) (d : List ℕ) (room : length (bytesOf (rs ++ ss)) ≤ length d) where
   module _ (e : List ℕ) (a : ℕ) (p : IsPut (bytesOf rs) d e a) where
     pub back-starts : a ≤ length e
     back-starts = within (bytesOf rs) d e a p
@@ -106,4 +110,4 @@ module _ (rs ss : List Record) (d : List ℕ) (room : length (bytesOf (rs ++ ss)
     pub both-put : (f : List ℕ) (k : ℕ) → IsPut (bytesOf ss) (lentAt a e) f k → IsPut (bytesOf (rs ++ ss)) d (backAt a e f) (a + k)
     both-put f k q = rw (bytes-append rs ss) (then (bytesOf rs) d e a p (bytesOf ss) f k q)
 
-pub ruleset both·laws = (needs, front-room, back-starts, back-fits, both-put)
+pub ruleset host-line·laws = (needs, holding, room-of, put-of, host-is, alias-room, back-starts, back-fits, both-put)

@@ -49,12 +49,9 @@ fn put_alias(out: &mut [u8], line: AddressLine) -> usize
     requires { ⌜ Holding line × (length (bytesOf (aliasRecords line)) ≤ length (now out)) ⌝ }
     ensures { λ r. ⌜ IsPut (bytesOf (aliasRecords line)) (now (out .entry)) (now (out .exit)) r ⌝ }
 {
-    let shared = line.shared;
-    let address = line.address;
-    let owner = line.owner;
-    let bytes = owner.bytes;
-    let len = owner.len;
-    put_address(out, &bytes[..len], address, shared)
+    let bytes = line.owner.bytes;
+    let len = line.owner.len;
+    put_address(out, &bytes[..len], line.address, line.shared)
 }
 
 pub fn put_alias_line(out: &mut [u8], rest: &[u8], spans: [Span; 11]) -> usize
@@ -70,13 +67,10 @@ fn put_back(out: &mut [u8], line: AddressLine) -> usize
     requires { ⌜ Holding line × (length (bytesOf (pointerRecord line ∷ [])) ≤ length (now out)) ⌝ }
     ensures { λ r. ⌜ IsPut (bytesOf (pointerRecord line ∷ [])) (now (out .entry)) (now (out .exit)) r ⌝ }
 {
-    let shared = line.shared;
-    let owner = line.owner;
-    let bytes = owner.bytes;
-    let len = owner.len;
-    let address = line.address;
-    let address_bytes = address.bytes;
-    let address_len = address.len;
+    let bytes = line.owner.bytes;
+    let len = line.owner.len;
+    let address_bytes = line.address.bytes;
+    let address_len = line.address.len;
     let reverse = read_reverse(&address_bytes[..address_len]);
     let reverse_bytes = reverse.bytes;
     let reverse_len = reverse.len;
@@ -84,17 +78,9 @@ fn put_back(out: &mut [u8], line: AddressLine) -> usize
         out,
         &reverse_bytes[..reverse_len],
         12,
-        shared,
+        line.shared,
         &bytes[..len],
     )
-}
-
-fn put_both(out: &mut [u8], line: AddressLine) -> usize
-    requires { ⌜ Holding line × (length (bytesOf (backRecords line)) ≤ length (now out)) ⌝ }
-    ensures { λ r. ⌜ IsPut (bytesOf (backRecords line)) (now (out .entry)) (now (out .exit)) r ⌝ }
-{
-    let used = put_alias(out, line);
-    used + put_back(&mut out[used..], line)
 }
 
 pub fn put_host_line(out: &mut [u8], rest: &[u8], spans: [Span; 11]) -> usize
@@ -102,5 +88,6 @@ pub fn put_host_line(out: &mut [u8], rest: &[u8], spans: [Span; 11]) -> usize
     ensures { λ r. ⌜ IsPut (bytesOf (recordsOf 0 Kind.Host (splitOn 58 (now (rest .entry))))) (now (out .entry)) (now (out .exit)) r ⌝ }
 {
     let line = address_line(rest, spans, Kind::Host);
-    put_both(out, line)
+    let used = put_alias(out, line);
+    used + put_back(&mut out[used..], line)
 }

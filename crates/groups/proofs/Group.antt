@@ -2,7 +2,6 @@
 use mathlib.Core.Path.{_≡_, refl, ap, _∙_, sym}
 use mathlib.Core.Bool.{Bool, true, false, _&&_}
 use mathlib.Core.List.{List}
-use mathlib.Core.Option.{none, some}
 use Prim.Native.Nat.{ℕ, _+_, _*_, _-_, _^_, _<_, _≤_}
 use native.Mathlib.Nat.{pow-le-pow-right}
 use native.Mathlib.Omega.{arith}
@@ -11,11 +10,13 @@ use borrow.Author.Tests.{le-leb, lt-leb, leb-true}
 use lib.Dec.{leb, lit<}
 use lib.ListN.{length, getD}
 use mir.Val.{Fits}
-use mir.Syntax.{w16, w64}
+use mir.Syntax.{w64}
 use Rattle.rules.specs.Lists.{pick, lower}
-use Rattle.rules.specs.Fields.{digit, lowerHexDigit, hexValue, group}
+use Rattle.rules.specs.Fields.{digit, lowerHexDigit, hexValue, hexFrom, group}
 use Rattle.numbers.specs.Views.{hexOr}
-use Rattle.groups.specs.Groups.{groupOf}
+use Rattle.numbers.specs.declared.numbers.NumberRead.{NumberRead}
+use Rattle.octets.specs.Octets.{IsPiece}
+use Rattle.octets.proofs.Taken.{not-good}
 use Rattle.numbers.proofs.HexDigit.{Hex, begin, taken, refused, all-good, all-worth, is-digit, no-digit, more-digits, times-fits, more-fits}
 
 abbrev pub anyCase : ℕ → Bool
@@ -44,12 +45,12 @@ same-value : (b : ℕ) → hexValue b ≡ hexValue (lower b)
 unfolding lower
 same-value b = value-by b (leb 65 b) (leb b 90) refl refl
 
-pub empty : (s : List ℕ) → length s ≡ 0 → none ≡ groupOf s
-unfolding groupOf group pick
+pub empty : (s : List ℕ) → length s ≡ 0 → group s ≡ false
+unfolding group
 empty s h = rw (lt-leb 1 (length s) (omega arith))
 
-pub long : (s : List ℕ) → 4 < length s → none ≡ groupOf s
-unfolding groupOf group pick
+pub long : (s : List ℕ) → 4 < length s → group s ≡ false
+unfolding group
 long s h = rw (le-leb 1 (length s) (omega arith), lt-leb (length s) 4 h)
 
 module _ (s : List ℕ) (value i : ℕ) (e : Hex anyCase s value i) where
@@ -59,14 +60,18 @@ module _ (s : List ℕ) (value i : ℕ) (e : Hex anyCase s value i) where
         let w = is-digit c d q k in
         taken e d h (ap lowerHexDigit (sym p) ∙ w .0) (same-value (getD s i 0) ∙ ap hexValue (sym p) ∙ w .1)
 
-    pub bad-digit : (length s ≡ 0 → ⊥) → length s ≤ 4 → 16 ≤ d → none ≡ groupOf s
-    unfolding groupOf group pick
+    pub bad-digit : (length s ≡ 0 → ⊥) → length s ≤ 4 → 16 ≤ d → group s ≡ false
+    unfolding group
     bad-digit y z k =
         rw (le-leb 1 (length s) (omega arith), le-leb (length s) 4 z, refused e h (ap lowerHexDigit (sym p) ∙ no-digit c d q k))
 
-  pub good : (length s ≡ 0 → ⊥) → length s ≤ 4 → length s ≤ i → some value ≡ groupOf s
-  unfolding groupOf group pick
-  good y z h = rw (le-leb 1 (length s) (omega arith), le-leb (length s) 4 z, all-good e h, all-worth e h)
+  pub good : (length s ≡ 0 → ⊥) → length s ≤ 4 → length s ≤ i → i ≤ length s → value < 16 ^ i → IsPiece group (hexFrom 0) 65535 s (NumberRead.Good value)
+  unfolding group pick
+  good y z h l u =
+      record {
+        says = rw (le-leb 1 (length s) (omega arith), le-leb (length s) 4 z, all-good e h, all-worth e h);
+        fits = λ v q. let w : value ≡ v = cc in omega (arith, pow-le-pow-right {n = 16} (lit< tt) (let m : i ≤ 4 = omega arith in m));
+      }
 
 -- a loop over four digits
 pub four-times : (i v n : ℕ) → v < 16 ^ i → i < n → n ≤ 4 → Fits w64 (v * 16)
@@ -75,7 +80,4 @@ four-times i v n h k m = times-fits i v n h k (omega arith)
 pub four-more : (i v d n : ℕ) → v < 16 ^ i → i < n → n ≤ 4 → d < 16 → Fits w64 (v * 16 + d)
 four-more i v d n h k m e = more-fits i v n d h k (omega arith) e
 
-pub four-fit : (i v n : ℕ) → v < 16 ^ i → i ≤ n → n ≤ 4 → Fits w16 v
-four-fit i v n h k m = omega (arith, pow-le-pow-right {n = 16} (lit< tt) (let l : i ≤ 4 = omega arith in l))
-
-pub ruleset group·laws = (begin, empty, long, turn, bad-digit, good, more-digits, four-times, four-more, four-fit, needs)
+pub ruleset group·laws = (begin, empty, long, turn, bad-digit, good, more-digits, four-times, four-more, not-good, needs)

@@ -10,66 +10,44 @@ use borrow.Author.Needs.{needs}
 use borrow.Author.Tests.{ne-eqb, eqb-true}
 use lib.Dec.{eqb}
 use lib.ListN.{length, getD, take, drop, set, length-set}
+use mir.Val.{Fits}
+use mir.Syntax.{w16}
 use lib.Seq.{take-all, take-suc, take-suc-set}
 use Rattle.rules.specs.Lists.{pick, joinAll, splitOn, be}
 use Rattle.rules.specs.Fields.{hexFrom, group, groupBytes, addressIf}
 use Rattle.wire.proofs.Steps.{take-put}
-use Rattle.groups.specs.Groups.{groupRead, groupOf, groupsBytes, groupsRead, IsGroups}
-use Rattle.pieces.specs.Pieces.{IsEnd, piecesFrom}
-use Rattle.groups.specs.declared.groups.GroupRead.{GroupRead}
-use Rattle.pieces.proofs.Piece.{piece-at, no-piece, all-pieces}
-use Rattle.octets.proofs.Taken.{Taken, none-taken, taken, bad-piece, one-more, all-good, all-bytes, all-many, good-by, bad-by}
+use Rattle.numbers.specs.declared.numbers.NumberRead.{NumberRead}
+use Rattle.octets.specs.Octets.{IsPiece}
+use Rattle.groups.specs.Groups.{groupsBytes, groupsRead, IsGroups}
+use Rattle.pieces.specs.Pieces.{IsEnd}
+use Rattle.pieces.proofs.Piece.{piece-at, no-piece}
+use Rattle.octets.proofs.Taken.{Going, snoc, one-more, all-good, all-bytes, all-many}
 
--- the groups before start are read into the first count
-abbrev pub Going : List ℕ → List ℕ → ℕ → ℕ → Type 0
-Going s groups count start = Taken group groupBytes (splitOn 95 s) (piecesFrom 95 s start) (groupsBytes (take count groups)) count
+pub group-bytes : (t : List ℕ) → groupBytes t ≡ be 2 (hexFrom 0 t)
+unfolding groupBytes
+group-bytes t = refl
 
-pub begin : (s groups : List ℕ) → Going s groups 0 0
-unfolding groupsBytes joinAll
-begin s groups = rw (all-pieces 95 s) (none-taken group groupBytes (splitOn 95 s))
+pub group-fits : (t : List ℕ) (x : NumberRead) (v : ℕ) → IsPiece group (hexFrom 0) 65535 t x → x ≡ NumberRead.Good v → Fits w16 v
+group-fits t x v q e = omega (arith, q .fits v e)
 
--- the bytes of one group more
-pub snoc : (gs : List ℕ) (g : ℕ) → groupsBytes (gs ++ (g ∷ [])) ≡ groupsBytes gs ++ be 2 g
-unfolding groupsBytes joinAll
-snoc [] g = append-nil (be 2 g)
-snoc (x ∷ gs) g = ap (λ (l : List ℕ). be 2 x ++ l) (snoc gs g) ∙ sym (append-assoc (be 2 x) (joinAll (map (be 2) gs)) (be 2 g))
-
-refused : (s groups : List ℕ) → length groups ≡ 8 → addressIf (eqb (length (splitOn 95 s)) 8) group groupBytes (splitOn 95 s) ≡ none
+pub refused : (s groups : List ℕ) → length groups ≡ 8 → addressIf (eqb (length (splitOn 95 s)) 8) group groupBytes (splitOn 95 s) ≡ none
     → IsGroups s (record { groups = groups; good = false })
 unfolding groupsRead pick
 refused s groups l e = record { says = sym e; long = l }
 
-module _ (s groups : List ℕ) (count start : ℕ) (e : Going s groups count start) (l : length groups ≡ 8) where
-  module _ (end : ℕ) (p : IsEnd 95 s start end) where
-    pub too-many : 7 < count → IsGroups s (record { groups = groups; good = false })
-    unfolding addressIf pick
-    too-many h =
-        let m = one-more e (piece-at p) in
-        refused s groups l (rw (ne-eqb (length (splitOn 95 s)) 8 (λ z. omega arith)))
+module _ (s groups : List ℕ) (count start : ℕ) (e : Going group groupBytes (be 2) 95 s groups count start) where
+  pub too-many : (end : ℕ) → IsEnd 95 s start end → 7 < count → addressIf (eqb (length (splitOn 95 s)) 8) group groupBytes (splitOn 95 s) ≡ none
+  unfolding addressIf pick
+  too-many end p h = let m = one-more e (piece-at p) in rw (ne-eqb (length (splitOn 95 s)) 8 (λ z. omega arith))
 
-    module _ (x : GroupRead) (q : groupRead x ≡ groupOf (take (end - start) (drop start s))) where
-      pub bad : x ≡ GroupRead.Bad → IsGroups s (record { groups = groups; good = false })
-      unfolding groupOf
-      bad w =
-          refused s groups l
-          (bad-piece e (piece-at p)
-          (eqb (length (splitOn 95 s)) 8) (bad-by (group (take (end - start) (drop start s))) _ (sym q ∙ rw w)))
-
-      pub more : (v : ℕ) → x ≡ GroupRead.Good v → count ≤ 7 → Going s (set groups count v) (count + 1) (end + 1)
-      unfolding groupOf groupBytes
-      more v w h =
-          let g = good-by (group (take (end - start) (drop start s))) (hexFrom 0 (take (end - start) (drop start s))) v (sym q ∙ rw w) in
-          rw (take-put groups count v (omega arith), snoc (take count groups) v, ← g .1)
-          (taken e (piece-at p) (g .0))
-
-  counted-by : (t : Bool) → eqb count 8 ≡ t → pick t (some (groupsBytes groups)) none ≡ pick t (some (groupsBytes (take count groups))) none
+  counted-by : length groups ≡ 8 → (t : Bool) → eqb count 8 ≡ t → pick t (some (groupsBytes groups)) none ≡ pick t (some (groupsBytes (take count groups))) none
   unfolding pick
-  counted-by true q = let c = eqb-true count 8 q in rw (take-all count groups (omega arith))
-  counted-by false q = refl
+  counted-by l true q = let c = eqb-true count 8 q in rw (take-all count groups (omega arith))
+  counted-by l false q = refl
 
-  pub end : length s < start → IsGroups s (record { groups = groups; good = eqb count 8 })
-  unfolding groupsRead addressIf
-  end h =
+  pub end : length groups ≡ 8 → length s < start → IsGroups s (record { groups = groups; good = eqb count 8 })
+  unfolding groupsRead groupsBytes addressIf
+  end l h =
       let z = no-piece 95 s start h in
       record {
         says =
@@ -79,11 +57,11 @@ module _ (s groups : List ℕ) (count start : ℕ) (e : Going s groups count sta
               all-many e z,
               and-true (eqb count 8),
             )
-            (counted-by (eqb count 8) refl);
+            (counted-by l (eqb count 8) refl);
         long = l;
       }
 
-pub ruleset groups·laws = (begin, too-many, bad, more, end, needs)
+pub ruleset groups·laws = (refused, group-fits, too-many, end, needs)
 
 -- the bytes of the first i groups
 pub no-bytes : (groups bytes : List ℕ) → take 0 bytes ≡ groupsBytes (take 0 groups)
@@ -92,7 +70,7 @@ no-bytes groups bytes = refl
 
 pub two-bytes : (groups bytes : List ℕ) (i : ℕ) → take (2 * i) bytes ≡ groupsBytes (take i groups) → i < 8 → length groups ≡ 8 → length bytes ≡ 16
     → take (2 * (i + 1)) (set (set bytes (2 * i) (getD groups i 0 / 256 % 256)) (2 * i + 1) (getD groups i 0 % 256)) ≡ groupsBytes (take (i + 1) groups)
-unfolding be
+unfolding be groupsBytes
 two-bytes groups bytes i e h k l =
     let q : 2 * (i + 1) ≡ suc (2 * i + 1) = omega arith in
     let m : 2 * i + 1 < length (set bytes (2 * i) (getD groups i 0 / 256 % 256)) = simp length-set (omega arith) in
@@ -103,7 +81,7 @@ two-bytes groups bytes i e h k l =
       e,
       add-one i,
       take-suc groups i 0 (omega arith),
-      snoc (take i groups) (getD groups i 0),
+      snoc (be 2) (take i groups) (getD groups i 0),
     )
     (append-assoc (groupsBytes (take i groups)) (getD groups i 0 / 256 % 256 ∷ []) (getD groups i 0 % 256 ∷ []))
 

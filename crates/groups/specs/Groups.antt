@@ -1,21 +1,13 @@
 -- What the readers of groups promise.
 use Prim.Native.Nat.{ℕ}
 use mathlib.Core.Option.{Option, none, some}
-use Rattle.groups.specs.declared.groups.GroupRead.{GroupRead}
 use mathlib.Core.Path.{_≡_}
-use mathlib.Core.List.{List, [], _∷_, map}
+use mathlib.Core.List.{List, map}
 use lib.Dec.{eqb}
 use lib.ListN.{length}
 use Rattle.rules.specs.Lists.{pick, splitOn, joinAll, be}
-use Rattle.rules.specs.Fields.{hexFrom, group, groupBytes, addressIf}
+use Rattle.rules.specs.Fields.{group, groupBytes, addressIf}
 use Rattle.groups.specs.declared.groups.GroupsRead.{GroupsRead}
-
-abbrev pub groupRead : GroupRead → Option ℕ
-groupRead (GroupRead.Good value) = some value
-groupRead GroupRead.Bad = none
-
-unfoldable pub groupOf : List ℕ → Option ℕ
-groupOf t = pick (group t) (some (hexFrom 0 t)) none
 
 -- each group as two bytes, the high one first
 unfoldable pub groupsBytes : List ℕ → List ℕ

@@ -1,35 +1,33 @@
 // IPv6: eight groups of 1 to 4 hexadecimal digits joined by underscores.
 ghost use mathlib.Core.Path.{_≡_};
-ghost use Rattle.groups.specs.Groups.{groupRead, groupOf, groupsBytes, IsGroups};
+ghost use Rattle.rules.specs.Fields.{hexFrom, group};
+ghost use Rattle.octets.specs.Octets.{IsPiece};
+ghost use Rattle.groups.specs.Groups.{groupsBytes, IsGroups};
 use numbers::hex::hex_digit;
+use numbers::numbers::NumberRead;
 use pieces::pieces::piece_end;
 
-pub enum GroupRead {
-    Good(u16),
-    Bad,
-}
-
-fn group(text: &[u8]) -> GroupRead
-    ensures { λ r. ⌜ groupRead r ≡ groupOf (now (text .entry)) ⌝ }
+fn group(text: &[u8]) -> NumberRead
+    ensures { λ r. ⌜ IsPiece group (hexFrom 0) 65535 (now (text .entry)) r ⌝ }
 {
     let n = text.len();
     if n == 0 {
-        return GroupRead::Bad;
+        return NumberRead::Bad;
     }
     if 4 < n {
-        return GroupRead::Bad;
+        return NumberRead::Bad;
     }
     let mut value: u64 = 0;
     let mut i: usize = 0;
     while i < n {
         let d = hex_digit(wire::letters::lowered(text[i]));
         if 16 <= d {
-            return GroupRead::Bad;
+            return NumberRead::Bad;
         }
         value = value * 16 + d;
         i += 1;
     }
-    GroupRead::Good(value as u16)
+    NumberRead::Good(value)
 }
 
 pub struct GroupsRead {
@@ -55,12 +53,12 @@ pub fn groups(text: &[u8]) -> GroupsRead
             };
         }
         match group(&text[start..end]) {
-            GroupRead::Good(value) => {
-                groups[count] = value;
+            NumberRead::Good(value) => {
+                groups[count] = value as u16;
                 count += 1;
                 start = end + 1;
             },
-            GroupRead::Bad => {
+            NumberRead::Bad => {
                 return GroupsRead {
                     groups,
                     good: false,

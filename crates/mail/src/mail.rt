@@ -25,21 +25,13 @@ fn put_exchanger(out: &mut [u8], line: HostLine, dist: u16) -> usize
     ensures { λ r. ⌜ IsPut (bytesOf (hostRecords line 15 (be 2 dist))) (now (out .entry)) (now (out .exit)) r ⌝ }
 {
     let shared = line.shared;
-    let address = line.address;
-    let owner = line.owner;
-    let owner_bytes = owner.bytes;
-    let owner_len = owner.len;
-    let host = line.host;
-    let host_bytes = host.bytes;
-    let host_len = host.len;
-    let used = put_mx(
-        out,
-        &owner_bytes[..owner_len],
-        shared,
-        dist,
-        &host_bytes[..host_len],
-    );
-    used + put_address(&mut out[used..], &host_bytes[..host_len], address, shared)
+    let owner_bytes = line.owner.bytes;
+    let owner_len = line.owner.len;
+    let host_bytes = line.host.bytes;
+    let host_len = line.host.len;
+    let name = &host_bytes[..host_len];
+    let used = put_mx(out, &owner_bytes[..owner_len], shared, dist, name);
+    used + put_address(&mut out[used..], name, line.address, shared)
 }
 
 pub fn put_mail_line(out: &mut [u8], rest: &[u8], spans: [Span; 11]) -> usize

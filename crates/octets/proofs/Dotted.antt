@@ -1,31 +1,38 @@
 -- The laws of numbers joined by dots.
-use mathlib.Core.Path.{_≡_, _∙_, sym}
+use mathlib.Core.Path.{_≡_, refl, ap, _∙_, sym}
 use mathlib.Core.Bool.{true, false}
-use mathlib.Core.List.{List}
+use mathlib.Core.List.{List, [], _∷_, map}
 use mathlib.Core.Option.{none}
-use Prim.Native.Nat.{ℕ, _+_, _-_, _<_, _≤_}
+use Prim.Native.Nat.{ℕ, _<_, _≤_}
 use native.Mathlib.Omega.{arith}
 use borrow.Author.Needs.{needs}
 use borrow.Author.Tests.{le-leb, lt-leb}
 use lib.Dec.{leb}
-use lib.ListN.{length, take, drop, set}
-use Rattle.rules.specs.Lists.{pick, splitOn}
+use lib.ListN.{length, take}
+use mir.Val.{Fits}
+use mir.Syntax.{w8}
+use Rattle.rules.specs.Lists.{pick, joinAll, splitOn}
 use Rattle.rules.specs.Fields.{decimalFrom, octet, octetByte, addressIf}
-use Rattle.wire.proofs.Steps.{take-put}
-use Rattle.octets.specs.Octets.{octetRead, octetOf, octetsRead, IsOctets}
-use Rattle.pieces.specs.Pieces.{IsEnd, piecesFrom}
-use Rattle.octets.specs.declared.octets.OctetRead.{OctetRead}
-use Rattle.pieces.proofs.Piece.{piece-at, no-piece, all-pieces}
-use Rattle.octets.proofs.Taken.{Taken, none-taken, taken, bad-piece, one-more, all-good, all-bytes, all-many, good-by, bad-by}
+use Rattle.numbers.specs.declared.numbers.NumberRead.{NumberRead}
+use Rattle.pieces.specs.Pieces.{IsEnd}
+use Rattle.pieces.proofs.Piece.{piece-at, no-piece}
+use Rattle.octets.specs.Octets.{IsPiece, octetsRead, IsOctets}
+use Rattle.octets.proofs.Taken.{Going, one-more, all-good, all-bytes, all-many}
 
--- the numbers before start are read into the first count bytes
-abbrev pub Going : List ℕ → List ℕ → ℕ → ℕ → Type 0
-Going s bytes count start = Taken octet octetByte (splitOn 46 s) (piecesFrom 46 s start) (take count bytes) count
+-- a number is one byte
+abbrev pub one : ℕ → List ℕ
+one v = v ∷ []
 
-pub begin : (s bytes : List ℕ) → Going s bytes 0 0
-begin s bytes = rw (all-pieces 46 s) (none-taken octet octetByte (splitOn 46 s))
+ones : (vs : List ℕ) → joinAll (map one vs) ≡ vs
+unfolding joinAll
+ones [] = refl
+ones (v ∷ vs) = ap (λ (l : List ℕ). v ∷ l) (ones vs)
 
-refused : (s bytes : List ℕ) → length bytes ≡ 4 → addressIf (leb (length (splitOn 46 s)) 4) octet octetByte (splitOn 46 s) ≡ none
+pub octet-byte : (t : List ℕ) → octetByte t ≡ one (decimalFrom 0 t)
+unfolding octetByte
+octet-byte t = refl
+
+pub refused : (s bytes : List ℕ) → length bytes ≡ 4 → addressIf (leb (length (splitOn 46 s)) 4) octet octetByte (splitOn 46 s) ≡ none
     → IsOctets s (record { bytes = bytes; count = 0; good = false })
 unfolding octetsRead pick
 refused s bytes l e =
@@ -36,32 +43,17 @@ refused s bytes l e =
       long = l;
     }
 
-module _ (s bytes : List ℕ) (count start : ℕ) (e : Going s bytes count start) (l : length bytes ≡ 4) where
-  module _ (end : ℕ) (p : IsEnd 46 s start end) where
-    pub too-many : 3 < count → IsOctets s (record { bytes = bytes; count = 0; good = false })
-    unfolding addressIf pick
-    too-many h =
-        let m = one-more e (piece-at p) in
-        refused s bytes l (rw (lt-leb (length (splitOn 46 s)) 4 (omega arith)))
+pub byte-fits : (t : List ℕ) (x : NumberRead) (v : ℕ) → IsPiece octet (decimalFrom 0) 255 t x → x ≡ NumberRead.Good v → Fits w8 v
+byte-fits t x v q e = omega (arith, q .fits v e)
 
-    module _ (x : OctetRead) (q : octetRead x ≡ octetOf (take (end - start) (drop start s))) where
-      pub bad : x ≡ OctetRead.Bad → IsOctets s (record { bytes = bytes; count = 0; good = false })
-      unfolding octetOf
-      bad w =
-          refused s bytes l
-          (bad-piece e (piece-at p)
-          (leb (length (splitOn 46 s)) 4) (bad-by (octet (take (end - start) (drop start s))) _ (sym q ∙ rw w)))
+module _ (s bytes : List ℕ) (count start : ℕ) (e : Going octet octetByte one 46 s bytes count start) where
+  pub too-many : (end : ℕ) → IsEnd 46 s start end → 3 < count → addressIf (leb (length (splitOn 46 s)) 4) octet octetByte (splitOn 46 s) ≡ none
+  unfolding addressIf pick
+  too-many end p h = let m = one-more e (piece-at p) in rw (lt-leb (length (splitOn 46 s)) 4 (omega arith))
 
-      pub more : (v : ℕ) → x ≡ OctetRead.Good v → count ≤ 3 → Going s (set bytes count v) (count + 1) (end + 1)
-      unfolding octetOf octetByte
-      more v w h =
-          let g = good-by (octet (take (end - start) (drop start s))) (decimalFrom 0 (take (end - start) (drop start s))) v (sym q ∙ rw w) in
-          rw (take-put bytes count v (omega arith), ← g .1)
-          (taken e (piece-at p) (g .0))
-
-  pub end : length s < start → count ≤ 4 → IsOctets s (record { bytes = bytes; count = count; good = true })
+  pub end : length bytes ≡ 4 → length s < start → count ≤ 4 → IsOctets s (record { bytes = bytes; count = count; good = true })
   unfolding octetsRead addressIf pick
-  end h k =
+  end l h k =
       let z = no-piece 46 s start h in
       let m = all-many e z in
       record {
@@ -70,10 +62,11 @@ module _ (s bytes : List ℕ) (count start : ℕ) (e : Going s bytes count start
               le-leb (length (splitOn 46 s)) 4 (omega arith),
               all-good e z,
               all-bytes e z,
+              ones (take count bytes),
             );
         pieces = λ q. sym m;
         few = k;
         long = l;
       }
 
-pub ruleset octets·laws = (begin, too-many, bad, more, end, needs)
+pub ruleset octets·laws = (refused, byte-fits, too-many, end, needs)

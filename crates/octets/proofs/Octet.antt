@@ -9,14 +9,13 @@ use borrow.Author.Needs.{needs}
 use borrow.Author.Tests.{le-leb, lt-leb, ne-eqb, not-true, not-false}
 use lib.Dec.{eqb}
 use lib.ListN.{length, getD}
-use mir.Val.{Fits}
-use mir.Syntax.{w8}
 use Rattle.rules.specs.Lists.{pick}
-use Rattle.rules.specs.Fields.{firstIsZero, octet, numberOf}
+use Rattle.rules.specs.Fields.{decimalFrom, firstIsZero, octet, numberOf}
 use Rattle.numbers.specs.Views.{numberRead}
-use Rattle.octets.specs.Octets.{leadingZero, octetOf}
+use Rattle.octets.specs.Octets.{leadingZero, IsPiece}
 use Rattle.numbers.specs.declared.numbers.NumberRead.{NumberRead}
 use Rattle.numbers.proofs.Number.{within}
+use Rattle.octets.proofs.Taken.{not-good}
 
 pub short : (t : List ℕ) → length t < 2 → false ≡ leadingZero t
 unfolding leadingZero firstIsZero
@@ -37,27 +36,20 @@ first (b ∷ c ∷ t) h = rw (ne-eqb (length (b ∷ c ∷ t)) 1 (λ e. omega ari
 pub ruleset zero·laws = (short, first, needs)
 
 module _ (t : List ℕ) where
-  pub long : 3 < length t → none ≡ octetOf t
-  unfolding octetOf octet pick
+  pub long : 3 < length t → octet t ≡ false
+  unfolding octet
   long h = rw (le-leb 1 (length t) (omega arith), lt-leb (length t) 3 h)
 
-  pub zero-ahead : (r : Bool) → r ≡ leadingZero t → r ≡ true → none ≡ octetOf t
-  unfolding octetOf octet leadingZero pick
+  pub zero-ahead : (r : Bool) → r ≡ leadingZero t → r ≡ true → octet t ≡ false
+  unfolding octet leadingZero
   zero-ahead r p q = rw (not-true (eqb (length t) 1 || not (firstIsZero t)) (sym p ∙ q), and-false)
 
-  module _ (r : Bool) (p : r ≡ leadingZero t) (q : r ≡ false) (h : length t ≤ 3) where
-    -- with these two tests passed it is a number up to 255
-    number-is : numberOf 255 t ≡ octetOf t
-    unfolding numberOf octetOf octet leadingZero
-    number-is = rw (not-false (eqb (length t) 1 || not (firstIsZero t)) (sym p ∙ q), le-leb (length t) 3 h, le-leb (length t) 10 (omega arith), and-true, and-true)
+  -- with these two tests passed it is a number up to 255
+  pub number-is : (r : Bool) (x : NumberRead) → r ≡ leadingZero t → r ≡ false → length t ≤ 3 → numberRead x ≡ numberOf 255 t → IsPiece octet (decimalFrom 0) 255 t x
+  unfolding numberOf octet leadingZero
+  number-is r x p q h e =
+      let n : numberOf 255 t ≡ pick (octet t) (some (decimalFrom 0 t)) none =
+      rw (not-false (eqb (length t) 1 || not (firstIsZero t)) (sym p ∙ q), le-leb (length t) 3 h, le-leb (length t) 10 (omega arith), and-true, and-true) in
+      record { says = e ∙ n; fits = λ v w. within 255 t x v e w }
 
-    pub good : (x : NumberRead) (v : ℕ) → numberRead x ≡ numberOf 255 t → x ≡ NumberRead.Good v → some v ≡ octetOf t
-    good x v a b = rw (← number-is, ← a, b)
-
-    pub bad : (x : NumberRead) → numberRead x ≡ numberOf 255 t → x ≡ NumberRead.Bad → none ≡ octetOf t
-    bad x a b = rw (← number-is, ← a, b)
-
-pub byte-fits : (t : List ℕ) (x : NumberRead) (v : ℕ) → numberRead x ≡ numberOf 255 t → x ≡ NumberRead.Good v → Fits w8 v
-byte-fits t x v a b = let l = within 255 t x v a b in omega arith
-
-pub ruleset octet·laws = (long, zero-ahead, good, bad, byte-fits, needs)
+pub ruleset octet·laws = (long, zero-ahead, number-is, not-good, needs)

@@ -1,27 +1,25 @@
 -- What the readers of octets promise.
-use Prim.Native.Nat.{ℕ, zero, _≤_}
+use Prim.Native.Nat.{ℕ, _≤_}
 use mathlib.Core.Option.{Option, none, some}
-use Rattle.octets.specs.declared.octets.OctetRead.{OctetRead}
 use mathlib.Core.Path.{_≡_}
 use mathlib.Core.Bool.{Bool, not, _||_, true}
-use mathlib.Core.List.{List, [], _∷_}
+use mathlib.Core.List.{List}
 use lib.Dec.{eqb, leb}
 use lib.ListN.{length, take}
 use Rattle.rules.specs.Lists.{pick, splitOn}
-use Rattle.rules.specs.Fields.{decimalFrom, firstIsZero, octet, group, octetByte, addressIf}
+use Rattle.rules.specs.Fields.{firstIsZero, octet, octetByte, addressIf}
+use Rattle.numbers.specs.Views.{numberRead}
+use Rattle.numbers.specs.declared.numbers.NumberRead.{NumberRead}
 use Rattle.octets.specs.declared.octets.OctetsRead.{OctetsRead}
-
-abbrev pub octetRead : OctetRead → Option ℕ
-octetRead (OctetRead.Good value) = some value
-octetRead OctetRead.Bad = none
 
 -- a zero stands in front of more
 unfoldable pub leadingZero : List ℕ → Bool
 leadingZero t = not (eqb (length t) 1 || not (firstIsZero t))
 
--- one number of an IPv4 address, and one group of an IPv6 address
-unfoldable pub octetOf : List ℕ → Option ℕ
-octetOf t = pick (octet t) (some (decimalFrom 0 t)) none
+-- one number of an address, of either form
+pub record IsPiece (good : List ℕ → Bool) (value : List ℕ → ℕ) (most : ℕ) (piece : List ℕ) (r : NumberRead) : Type 0 where
+  pub says : numberRead r ≡ pick (good piece) (some (value piece)) none
+  pub fits : (v : ℕ) → r ≡ NumberRead.Good v → v ≤ most
 
 -- the bytes that are read
 unfoldable pub octetsRead : OctetsRead → Option (List ℕ)

@@ -1,14 +1,10 @@
 // IPv4: numbers 0 to 255 joined by dots, of which an address has four and a prefix up to four.
 ghost use mathlib.Core.Path.{_≡_};
-ghost use Rattle.octets.specs.Octets.{octetRead, leadingZero, octetOf, IsOctets};
+ghost use Rattle.rules.specs.Fields.{decimalFrom, octet};
+ghost use Rattle.octets.specs.Octets.{leadingZero, IsPiece, IsOctets};
 use numbers::numbers::NumberRead;
 use numbers::numbers::number;
 use pieces::pieces::piece_end;
-
-pub enum OctetRead {
-    Good(u8),
-    Bad,
-}
 
 // A zero stands in front of more.
 fn leads_with_zero(text: &[u8]) -> bool
@@ -20,19 +16,16 @@ fn leads_with_zero(text: &[u8]) -> bool
     text[0] == 48
 }
 
-fn octet(text: &[u8]) -> OctetRead
-    ensures { λ r. ⌜ octetRead r ≡ octetOf (now (text .entry)) ⌝ }
+fn octet(text: &[u8]) -> NumberRead
+    ensures { λ r. ⌜ IsPiece octet (decimalFrom 0) 255 (now (text .entry)) r ⌝ }
 {
     if 3 < text.len() {
-        return OctetRead::Bad;
+        return NumberRead::Bad;
     }
     if leads_with_zero(text) {
-        return OctetRead::Bad;
+        return NumberRead::Bad;
     }
-    match number(text, 255) {
-        NumberRead::Good(value) => OctetRead::Good(value as u8),
-        NumberRead::Bad => OctetRead::Bad,
-    }
+    number(text, 255)
 }
 
 // The first count bytes, where they are good.
@@ -61,12 +54,12 @@ pub fn octets(text: &[u8]) -> OctetsRead
             };
         }
         match octet(&text[start..end]) {
-            OctetRead::Good(value) => {
-                bytes[count] = value;
+            NumberRead::Good(value) => {
+                bytes[count] = value as u8;
                 count += 1;
                 start = end + 1;
             },
-            OctetRead::Bad => {
+            NumberRead::Bad => {
                 return OctetsRead {
                     bytes,
                     count: 0,

@@ -35,13 +35,11 @@ fn put_service(
     ensures { λ r. ⌜ IsPut (bytesOf (serviceRecords line priority weight port)) (now (out .entry)) (now (out .exit)) r ⌝ }
 {
     let shared = line.shared;
-    let address = line.address;
-    let owner = line.owner;
-    let owner_bytes = owner.bytes;
-    let owner_len = owner.len;
-    let host = line.host;
-    let host_bytes = host.bytes;
-    let host_len = host.len;
+    let owner_bytes = line.owner.bytes;
+    let owner_len = line.owner.len;
+    let host_bytes = line.host.bytes;
+    let host_len = line.host.len;
+    let name = &host_bytes[..host_len];
     let used = put_srv(
         out,
         &owner_bytes[..owner_len],
@@ -49,9 +47,9 @@ fn put_service(
         priority,
         weight,
         port,
-        &host_bytes[..host_len],
+        name,
     );
-    used + put_address(&mut out[used..], &host_bytes[..host_len], address, shared)
+    used + put_address(&mut out[used..], name, line.address, shared)
 }
 
 pub fn put_service_line(out: &mut [u8], rest: &[u8], spans: [Span; 11]) -> usize

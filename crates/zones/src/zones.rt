@@ -32,21 +32,13 @@ fn put_server(out: &mut [u8], line: HostLine) -> usize
     ensures { λ r. ⌜ IsPut (bytesOf (hostRecords line 2 [])) (now (out .entry)) (now (out .exit)) r ⌝ }
 {
     let shared = line.shared;
-    let address = line.address;
-    let owner = line.owner;
-    let owner_bytes = owner.bytes;
-    let owner_len = owner.len;
-    let host = line.host;
-    let host_bytes = host.bytes;
-    let host_len = host.len;
-    let used = put_resource(
-        out,
-        &owner_bytes[..owner_len],
-        2,
-        shared,
-        &host_bytes[..host_len],
-    );
-    used + put_address(&mut out[used..], &host_bytes[..host_len], address, shared)
+    let owner_bytes = line.owner.bytes;
+    let owner_len = line.owner.len;
+    let host_bytes = line.host.bytes;
+    let host_len = line.host.len;
+    let name = &host_bytes[..host_len];
+    let used = put_resource(out, &owner_bytes[..owner_len], 2, shared, name);
+    used + put_address(&mut out[used..], name, line.address, shared)
 }
 
 // The seconds that the SOA of a zone line may be kept.
@@ -75,20 +67,18 @@ fn put_authority(out: &mut [u8], line: HostLine, serial: u32) -> usize
     requires { ⌜ Lendable line × (length (contactOf (heldName (line .owner))) ≤ 255) × (length (bytesOf (zoneRecords serial line)) ≤ length (now out)) ⌝ }
     ensures { λ r. ⌜ IsPut (encode (resourceOf (soaShared (line .shared)) (heldName (line .owner)) 6 (soaData (heldName (line .host)) (contactOf (heldName (line .owner))) serial 16384 2048 1048576 2560))) (now (out .entry)) (now (out .exit)) r ⌝ }
 {
-    let shared = line.shared;
-    let owner = line.owner;
-    let owner_bytes = owner.bytes;
-    let owner_len = owner.len;
-    let host = line.host;
-    let host_bytes = host.bytes;
-    let host_len = host.len;
-    let contact = read_contact(&owner_bytes[..owner_len]);
+    let owner_bytes = line.owner.bytes;
+    let owner_len = line.owner.len;
+    let host_bytes = line.host.bytes;
+    let host_len = line.host.len;
+    let name = &owner_bytes[..owner_len];
+    let contact = read_contact(name);
     let contact_bytes = contact.bytes;
     let contact_len = contact.len;
     put_soa(
         out,
-        &owner_bytes[..owner_len],
-        soa_shared(shared),
+        name,
+        soa_shared(line.shared),
         &host_bytes[..host_len],
         &contact_bytes[..contact_len],
         SoaNumbers {

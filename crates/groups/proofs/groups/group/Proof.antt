@@ -47,9 +47,6 @@ loop-less c = search group·laws
 loop-again : tie.Need-loop-again Inv-loop μ-loop
 loop-again c = search group·laws
 
-cast-t12 : tie.Need-cast-t12 Inv-loop μ-loop
-cast-t12 c = search group·laws
-
 returns-4 : tie.Need-returns-4 Inv-loop μ-loop
 returns-4 c = search group·laws
 
@@ -71,5 +68,4 @@ group-spec =
     add-i
     loop-less
     loop-again
-    cast-t12
     returns-4)

@@ -1,18 +1,21 @@
 use mathlib.Core.Path.{_≡_}
 use Prim.Native.Nat.{_+_, _-_, _≤_}
 use lib.ListN.{length}
-use Rattle.groups.proofs.Grouped.{Going, groups·laws}
+use Rattle.rules.specs.Lists.{be}
+use Rattle.rules.specs.Fields.{hexFrom, group, groupBytes}
+use Rattle.octets.proofs.Taken.{Going, begin, bad, more}
+use Rattle.groups.proofs.Grouped.{group-bytes, groups·laws}
 use Rattle.groups.proofs.groups.groups.Statement.{statement}
 use Rattle.groups.proofs.groups.groups.Tie as tie
 
 abbrev Inv-loop : tie.InvT-loop
-Inv-loop text groups₀ n count₀ start₀ groups count start = (count ≤ 8) × (start ≤ length text + 1) × (length groups ≡ 8) × Going text groups count start
+Inv-loop text groups₀ n count₀ start₀ groups count start = (count ≤ 8) × (start ≤ length text + 1) × (length groups ≡ 8) × Going group groupBytes (be 2) 95 text groups count start
 
 abbrev μ-loop : tie.MeasureT-loop
 μ-loop text groups₀ n count₀ start₀ groups count start = length text + 1 - start
 
 loop-holds : tie.Need-loop-holds Inv-loop μ-loop
-loop-holds c = search groups·laws
+loop-holds c = search (begin group groupBytes (be 2) 95, groups·laws)
 
 piece-end-requires : tie.Need-piece-end-requires Inv-loop μ-loop
 piece-end-requires c κs = search groups·laws
@@ -35,6 +38,9 @@ group-requires c κs = search groups·laws
 enum-known-value : tie.Need-enum-known-value Inv-loop μ-loop
 enum-known-value c = search groups·laws
 
+cast-groups : tie.Need-cast-groups Inv-loop μ-loop
+cast-groups c = search groups·laws
+
 mul-groups : tie.Need-mul-groups Inv-loop μ-loop
 mul-groups c = search groups·laws
 
@@ -51,13 +57,13 @@ loop-less : tie.Need-loop-less Inv-loop μ-loop
 loop-less c = search groups·laws
 
 loop-again : tie.Need-loop-again Inv-loop μ-loop
-loop-again c = search groups·laws
+loop-again c = search (more group groupBytes (be 2) 95 (hexFrom 0) group-bytes 65535, groups·laws)
 
 enum-told : tie.Need-enum-told Inv-loop μ-loop
 enum-told c = search groups·laws
 
 returns-2 : tie.Need-returns-2 Inv-loop μ-loop
-returns-2 c = search groups·laws
+returns-2 c = search (bad group groupBytes (be 2) 95 (hexFrom 0) group-bytes 65535, groups·laws)
 
 returns-3 : tie.Need-returns-3 Inv-loop μ-loop
 returns-3 c = search groups·laws
@@ -76,6 +82,7 @@ groups-spec =
     part-group-end
     group-requires
     enum-known-value
+    cast-groups
     mul-groups
     array-write-groups
     add-count

@@ -1,18 +1,19 @@
 use Rattle.mail.proofs.MailRecords.{exchanger·laws}
+use borrow.Author.Needs.{needs}
 use Rattle.mail.proofs.mail.put_exchanger.Statement.{statement}
 use Rattle.mail.proofs.mail.put_exchanger.Tie as tie
+
+array-share-prefix-host-bytes : tie.Need-array-share-prefix-host-bytes
+array-share-prefix-host-bytes c = search exchanger·laws
+
+slice-aggregate-name : tie.Need-slice-aggregate-name
+slice-aggregate-name c = search exchanger·laws
 
 array-share-prefix-owner-bytes : tie.Need-array-share-prefix-owner-bytes
 array-share-prefix-owner-bytes c = search exchanger·laws
 
 slice-aggregate-put-mx : tie.Need-slice-aggregate-put-mx
 slice-aggregate-put-mx c = search exchanger·laws
-
-array-share-prefix-host-bytes : tie.Need-array-share-prefix-host-bytes
-array-share-prefix-host-bytes c = search exchanger·laws
-
-slice-aggregate-put-mx-2 : tie.Need-slice-aggregate-put-mx-2
-slice-aggregate-put-mx-2 c = search exchanger·laws
 
 put-mx-requires : tie.Need-put-mx-requires
 put-mx-requires c κs = search exchanger·laws
@@ -25,12 +26,6 @@ part-put-address-start c = search exchanger·laws
 
 part-put-address-end : tie.Need-part-put-address-end
 part-put-address-end c = search exchanger·laws
-
-array-share-prefix-host-bytes-2 : tie.Need-array-share-prefix-host-bytes-2
-array-share-prefix-host-bytes-2 c = search exchanger·laws
-
-slice-aggregate-put-address : tie.Need-slice-aggregate-put-address
-slice-aggregate-put-address c = search exchanger·laws
 
 put-address-requires : tie.Need-put-address-requires
 put-address-requires c κs = search exchanger·laws
@@ -48,16 +43,14 @@ pub put-exchanger-spec : {M : Type 1} → statement M
 put-exchanger-spec =
     tie.close
     (tie.spec
+    array-share-prefix-host-bytes
+    slice-aggregate-name
     array-share-prefix-owner-bytes
     slice-aggregate-put-mx
-    array-share-prefix-host-bytes
-    slice-aggregate-put-mx-2
     put-mx-requires
     sub-put-address
     part-put-address-start
     part-put-address-end
-    array-share-prefix-host-bytes-2
-    slice-aggregate-put-address
     put-address-requires
     add-result
     same-length

@@ -1,18 +1,20 @@
 use mathlib.Core.Path.{_≡_}
 use Prim.Native.Nat.{_+_, _-_, _≤_}
 use lib.ListN.{length}
-use Rattle.octets.proofs.Dotted.{Going, octets·laws}
+use Rattle.rules.specs.Fields.{decimalFrom, octet, octetByte}
+use Rattle.octets.proofs.Taken.{Going, begin, bad, more}
+use Rattle.octets.proofs.Dotted.{one, octet-byte, octets·laws}
 use Rattle.octets.proofs.octets.octets.Statement.{statement}
 use Rattle.octets.proofs.octets.octets.Tie as tie
 
 abbrev Inv-loop : tie.InvT-loop
-Inv-loop text bytes₀ n count₀ start₀ bytes count start = (count ≤ 4) × (start ≤ length text + 1) × (length bytes ≡ 4) × Going text bytes count start
+Inv-loop text bytes₀ n count₀ start₀ bytes count start = (count ≤ 4) × (start ≤ length text + 1) × (length bytes ≡ 4) × Going octet octetByte one 46 text bytes count start
 
 abbrev μ-loop : tie.MeasureT-loop
 μ-loop text bytes₀ n count₀ start₀ bytes count start = length text + 1 - start
 
 loop-holds : tie.Need-loop-holds Inv-loop μ-loop
-loop-holds c = search octets·laws
+loop-holds c = search (begin octet octetByte one 46, octets·laws)
 
 piece-end-requires : tie.Need-piece-end-requires Inv-loop μ-loop
 piece-end-requires c κs = search octets·laws
@@ -35,6 +37,9 @@ octet-requires c κs = search octets·laws
 enum-known-value : tie.Need-enum-known-value Inv-loop μ-loop
 enum-known-value c = search octets·laws
 
+cast-bytes : tie.Need-cast-bytes Inv-loop μ-loop
+cast-bytes c = search octets·laws
+
 array-write-bytes : tie.Need-array-write-bytes Inv-loop μ-loop
 array-write-bytes c = search octets·laws
 
@@ -48,13 +53,13 @@ loop-less : tie.Need-loop-less Inv-loop μ-loop
 loop-less c = search octets·laws
 
 loop-again : tie.Need-loop-again Inv-loop μ-loop
-loop-again c = search octets·laws
+loop-again c = search (more octet octetByte one 46 (decimalFrom 0) octet-byte 255, octets·laws)
 
 enum-told : tie.Need-enum-told Inv-loop μ-loop
 enum-told c = search octets·laws
 
 returns-2 : tie.Need-returns-2 Inv-loop μ-loop
-returns-2 c = search octets·laws
+returns-2 c = search (bad octet octetByte one 46 (decimalFrom 0) octet-byte 255, octets·laws)
 
 returns-3 : tie.Need-returns-3 Inv-loop μ-loop
 returns-3 c = search octets·laws
@@ -73,6 +78,7 @@ octets-spec =
     part-octet-end
     octet-requires
     enum-known-value
+    cast-bytes
     array-write-bytes
     add-count
     add-start

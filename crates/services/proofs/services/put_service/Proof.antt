@@ -2,17 +2,17 @@ use Rattle.services.proofs.ServiceRecords.{service·laws}
 use Rattle.services.proofs.services.put_service.Statement.{statement}
 use Rattle.services.proofs.services.put_service.Tie as tie
 
+array-share-prefix-host-bytes : tie.Need-array-share-prefix-host-bytes
+array-share-prefix-host-bytes c = search service·laws
+
+slice-aggregate-name : tie.Need-slice-aggregate-name
+slice-aggregate-name c = search service·laws
+
 array-share-prefix-owner-bytes : tie.Need-array-share-prefix-owner-bytes
 array-share-prefix-owner-bytes c = search service·laws
 
 slice-aggregate-put-srv : tie.Need-slice-aggregate-put-srv
 slice-aggregate-put-srv c = search service·laws
-
-array-share-prefix-host-bytes : tie.Need-array-share-prefix-host-bytes
-array-share-prefix-host-bytes c = search service·laws
-
-slice-aggregate-put-srv-2 : tie.Need-slice-aggregate-put-srv-2
-slice-aggregate-put-srv-2 c = search service·laws
 
 put-srv-requires : tie.Need-put-srv-requires
 put-srv-requires c κs = search service·laws
@@ -25,12 +25,6 @@ part-put-address-start c = search service·laws
 
 part-put-address-end : tie.Need-part-put-address-end
 part-put-address-end c = search service·laws
-
-array-share-prefix-host-bytes-2 : tie.Need-array-share-prefix-host-bytes-2
-array-share-prefix-host-bytes-2 c = search service·laws
-
-slice-aggregate-put-address : tie.Need-slice-aggregate-put-address
-slice-aggregate-put-address c = search service·laws
 
 put-address-requires : tie.Need-put-address-requires
 put-address-requires c κs = search service·laws
@@ -48,16 +42,14 @@ pub put-service-spec : {M : Type 1} → statement M
 put-service-spec =
     tie.close
     (tie.spec
+    array-share-prefix-host-bytes
+    slice-aggregate-name
     array-share-prefix-owner-bytes
     slice-aggregate-put-srv
-    array-share-prefix-host-bytes
-    slice-aggregate-put-srv-2
     put-srv-requires
     sub-put-address
     part-put-address-start
     part-put-address-end
-    array-share-prefix-host-bytes-2
-    slice-aggregate-put-address
     put-address-requires
     add-result
     same-length

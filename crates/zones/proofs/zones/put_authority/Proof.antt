@@ -5,17 +5,11 @@ use Rattle.zones.proofs.zones.put_authority.Tie as tie
 array-share-prefix-owner-bytes : tie.Need-array-share-prefix-owner-bytes
 array-share-prefix-owner-bytes c = search authority·laws
 
-slice-aggregate-read-contact : tie.Need-slice-aggregate-read-contact
-slice-aggregate-read-contact c = search authority·laws
+slice-aggregate-name : tie.Need-slice-aggregate-name
+slice-aggregate-name c = search authority·laws
 
 read-contact-requires : tie.Need-read-contact-requires
 read-contact-requires c κs = search authority·laws
-
-array-share-prefix-owner-bytes-2 : tie.Need-array-share-prefix-owner-bytes-2
-array-share-prefix-owner-bytes-2 c = search authority·laws
-
-slice-aggregate-put-soa : tie.Need-slice-aggregate-put-soa
-slice-aggregate-put-soa c = search authority·laws
 
 soa-shared-requires : tie.Need-soa-shared-requires
 soa-shared-requires c κs = search authority·laws
@@ -23,14 +17,14 @@ soa-shared-requires c κs = search authority·laws
 array-share-prefix-host-bytes : tie.Need-array-share-prefix-host-bytes
 array-share-prefix-host-bytes c = search authority·laws
 
-slice-aggregate-put-soa-2 : tie.Need-slice-aggregate-put-soa-2
-slice-aggregate-put-soa-2 c = search authority·laws
+slice-aggregate-put-soa : tie.Need-slice-aggregate-put-soa
+slice-aggregate-put-soa c = search authority·laws
 
 array-share-prefix-contact-bytes : tie.Need-array-share-prefix-contact-bytes
 array-share-prefix-contact-bytes c = search authority·laws
 
-slice-aggregate-put-soa-3 : tie.Need-slice-aggregate-put-soa-3
-slice-aggregate-put-soa-3 c = search authority·laws
+slice-aggregate-put-soa-2 : tie.Need-slice-aggregate-put-soa-2
+slice-aggregate-put-soa-2 c = search authority·laws
 
 put-soa-requires : tie.Need-put-soa-requires
 put-soa-requires c κs = search authority·laws
@@ -46,15 +40,13 @@ put-authority-spec =
     tie.close
     (tie.spec
     array-share-prefix-owner-bytes
-    slice-aggregate-read-contact
+    slice-aggregate-name
     read-contact-requires
-    array-share-prefix-owner-bytes-2
-    slice-aggregate-put-soa
     soa-shared-requires
     array-share-prefix-host-bytes
-    slice-aggregate-put-soa-2
+    slice-aggregate-put-soa
     array-share-prefix-contact-bytes
-    slice-aggregate-put-soa-3
+    slice-aggregate-put-soa-2
     put-soa-requires
     same-length
     returns)

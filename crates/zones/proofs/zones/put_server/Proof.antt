@@ -2,17 +2,17 @@ use Rattle.records.proofs.Sequence.{sequence·laws}
 use Rattle.zones.proofs.zones.put_server.Statement.{statement}
 use Rattle.zones.proofs.zones.put_server.Tie as tie
 
+array-share-prefix-host-bytes : tie.Need-array-share-prefix-host-bytes
+array-share-prefix-host-bytes c = search sequence·laws
+
+slice-aggregate-name : tie.Need-slice-aggregate-name
+slice-aggregate-name c = search sequence·laws
+
 array-share-prefix-owner-bytes : tie.Need-array-share-prefix-owner-bytes
 array-share-prefix-owner-bytes c = search sequence·laws
 
 slice-aggregate-put-resource : tie.Need-slice-aggregate-put-resource
 slice-aggregate-put-resource c = search sequence·laws
-
-array-share-prefix-host-bytes : tie.Need-array-share-prefix-host-bytes
-array-share-prefix-host-bytes c = search sequence·laws
-
-slice-aggregate-put-resource-2 : tie.Need-slice-aggregate-put-resource-2
-slice-aggregate-put-resource-2 c = search sequence·laws
 
 put-resource-requires : tie.Need-put-resource-requires
 put-resource-requires c κs = search sequence·laws
@@ -25,12 +25,6 @@ part-put-address-start c = search sequence·laws
 
 part-put-address-end : tie.Need-part-put-address-end
 part-put-address-end c = search sequence·laws
-
-array-share-prefix-host-bytes-2 : tie.Need-array-share-prefix-host-bytes-2
-array-share-prefix-host-bytes-2 c = search sequence·laws
-
-slice-aggregate-put-address : tie.Need-slice-aggregate-put-address
-slice-aggregate-put-address c = search sequence·laws
 
 put-address-requires : tie.Need-put-address-requires
 put-address-requires c κs = search sequence·laws
@@ -48,16 +42,14 @@ pub put-server-spec : {M : Type 1} → statement M
 put-server-spec =
     tie.close
     (tie.spec
+    array-share-prefix-host-bytes
+    slice-aggregate-name
     array-share-prefix-owner-bytes
     slice-aggregate-put-resource
-    array-share-prefix-host-bytes
-    slice-aggregate-put-resource-2
     put-resource-requires
     sub-put-address
     part-put-address-start
     part-put-address-end
-    array-share-prefix-host-bytes-2
-    slice-aggregate-put-address
     put-address-requires
     add-result
     same-length
