@@ -2,13 +2,14 @@
 // line, field and bytes, and on 0 the records in hexadecimal digits. A word that is a number up to 65,536 is the room for the files behind
 // it; it is 65,536 at the start.
 ghost use Prim.Native.Nat.{_≤_};
-use compiled::compiled::compile_into;
+use compiler::compile::compile;
 use console::arguments::argument;
 use console::files::read_file;
 use hexadecimal::hex::print_hex;
 use libc::STDOUT_FILENO;
 use numbers::numbers::NumberRead;
 use numbers::numbers::number;
+use refusals::faults::is_done;
 use rules::faults::Answer;
 
 fn print_after_space(n: u64) {
@@ -25,15 +26,22 @@ fn print_answer(answer: Answer) {
 }
 
 fn compile_and_print(source: &[u8], out: &mut [u8]) {
-    let compiled = compile_into(source, 1000, out);
-    let answer = compiled.answer;
+    let answer = compile(source, 1000, out);
     print_answer(answer);
-    let front = compiled.front;
-    let len = front.len;
-    if 0 < len {
-        io::write_all(STDOUT_FILENO, b" ");
-        print_hex(STDOUT_FILENO, &out[..len]);
+    let fault = answer.fault;
+    if !is_done(fault) {
+        return;
     }
+    let len = answer.bytes;
+    if len == 0 {
+        return;
+    }
+    // never so: what is written fits
+    if out.len() < len {
+        return;
+    }
+    io::write_all(STDOUT_FILENO, b" ");
+    print_hex(STDOUT_FILENO, &out[..len]);
 }
 
 fn print_file(path: &[u8], room: usize)

@@ -4,10 +4,10 @@ ghost use mathlib.Core.List.{[], _∷_, map};
 ghost use Prim.Native.Nat.{_≤_};
 ghost use lib.ListN.{length};
 ghost use Rattle.rules.specs.Lists.{lower};
-ghost use Rattle.wire.specs.Letters.{Lowers};
+ghost use Rattle.letters.specs.Letters.{Lowers};
 ghost use Rattle.buffer.specs.Put.{IsPut};
-use wire::letters::letter_table;
-use wire::letters::lowered_by;
+use letters::letters::letter_table;
+use letters::letters::lowered_by;
 
 pub fn put_byte(out: &mut [u8], b: u8) -> usize
     requires { ⌜ 1 ≤ length (now out) ⌝ }

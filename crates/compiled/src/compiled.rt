@@ -15,7 +15,7 @@ pub struct Compiled {
 }
 
 // A source compiled into the buffer that is lent.
-pub fn compile_into(source: &[u8], serial: u32, out: &mut [u8]) -> Compiled
+fn compile_into(source: &[u8], serial: u32, out: &mut [u8]) -> Compiled
     ensures { λ r. ⌜ IsRecords (now (source .entry)) serial (now (out .entry)) (now (out .exit)) r ⌝ }
 {
     let answer = compile(source, serial, out);

@@ -20,7 +20,7 @@ fn group(text: &[u8]) -> NumberRead
     let mut value: u64 = 0;
     let mut i: usize = 0;
     while i < n {
-        let d = hex_digit(wire::letters::lowered(text[i]));
+        let d = hex_digit(letters::letters::lowered(text[i]));
         if 16 <= d {
             return NumberRead::Bad;
         }

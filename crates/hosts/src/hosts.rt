@@ -1,4 +1,4 @@
-// What a line with an address or a field x says of hosts, and the address record.
+// What a line with an address or a field x says of hosts.
 ghost use mathlib.Core.Path.{_≡_};
 ghost use mathlib.Core.Bool.{true};
 ghost use Prim.Native.Nat.{_≤_, _<_};

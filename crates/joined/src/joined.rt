@@ -49,7 +49,7 @@ fn middle_size(kind: Kind) -> usize
     }
 }
 
-// The size of the label and the name that are put in front of an owner for its contact, 0 for a kind without one.
+// The size of the label that is put in front of an owner for its contact, with its length byte; 0 for a kind without one.
 fn contact_size(kind: Kind) -> usize
     ensures { λ r. ⌜ (r ≡ contactSize kind) × (r ≤ 11) ⌝ }
 {

@@ -17,7 +17,7 @@ use rules::quantities::Lo;
 use stream::span_at;
 use view::visible;
 use wire::get::wide;
-use wire::letters::lowered;
+use letters::letters::lowered;
 
 // Whether a byte of a key is a byte with its letter lowered. It is computed: the table would be laid out anew for each byte.
 fn is_lowered(key: u8, b: u8) -> bool

@@ -1,6 +1,6 @@
 -- The laws of hexadecimal digits: a byte's value, and a turn of a loop that takes one digit.
 use mathlib.Core.Path.{_≡_, refl, _∙_, sym}
-use mathlib.Core.Bool.{Bool, true, false, _&&_, _||_}
+use mathlib.Core.Bool.{Bool, true, false, _&&_, _||_, true≢false}
 use mathlib.Core.List.{List}
 use Prim.Native.Nat.{ℕ, _+_, _*_, _-_, _^_, _<_, _≤_}
 use native.Mathlib.Nat.{pow-suc, pow-le-pow-right}
@@ -40,9 +40,6 @@ module _ (b : ℕ) where
 
 pub ruleset hex·laws = (below-digits, decimal, between, lettered, above, needs)
 
-false-true : {A : Type 0} → false ≡ true → A
-false-true e = absurd (let z : _≡_ {A = ℕ} 0 1 = cc in omega arith)
-
 unraised : (b : ℕ) → 97 ≤ b → lower b ≡ b
 unfolding lower pick
 unraised b h = rw (le-leb 65 b (omega arith), lt-leb b 90 (omega arith))
@@ -53,10 +50,10 @@ unfolding pick
 small-by b true true v w p q r s e = omega (arith, leb-true b 57 q)
 small-by b true false true true p q r s e = omega (arith, unraised b (leb-true 97 b r), leb-true b 102 s)
 small-by b false u true true p q r s e = omega (arith, unraised b (leb-true 97 b r), leb-true b 102 s)
-small-by b true false true false p q r s e = false-true e
-small-by b true false false w p q r s e = false-true e
-small-by b false u true false p q r s e = false-true e
-small-by b false u false w p q r s e = false-true e
+small-by b true false true false p q r s e = absurd (true≢false (sym e))
+small-by b true false false w p q r s e = absurd (true≢false (sym e))
+small-by b false u true false p q r s e = absurd (true≢false (sym e))
+small-by b false u false w p q r s e = absurd (true≢false (sym e))
 
 small : (b : ℕ) → lowerHexDigit b ≡ true → hexValue b < 16
 unfolding lowerHexDigit hexValue digit

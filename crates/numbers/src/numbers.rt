@@ -2,17 +2,11 @@
 ghost use mathlib.Core.Path.{_≡_};
 ghost use Rattle.rules.specs.Fields.{numberOf};
 ghost use Rattle.numbers.specs.Views.{numberRead};
+use wire::get::wide;
 
 pub enum NumberRead {
     Good(u64),
     Bad,
-}
-
-// The byte as a wider number: a cast of an element would ask again that it fits.
-fn wide(b: u8) -> u64
-    ensures { λ r. ⌜ r ≡ b ⌝ }
-{
-    b as u64
 }
 
 // Ten digits need more than 32 bits.

@@ -1,4 +1,4 @@
--- What is demanded of compiling and asking, as statements about the definitions. proofs/Demands.antt proves each.
+-- What is demanded of compiling and asking, as statements about the definitions. proofs/Refusals.antt and proofs/Meaning.antt prove them.
 use Prim.Native.Nat.{ℕ, suc, _+_, _≤_, _<_}
 use mathlib.Core.Path.{_≡_}
 use mathlib.Core.Bool.{not}

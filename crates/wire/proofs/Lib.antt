@@ -2,4 +2,3 @@ pub mod Compare
 pub mod Numbers
 pub mod Parts
 pub mod Steps
-pub mod Tables

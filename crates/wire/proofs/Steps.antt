@@ -33,7 +33,7 @@ pick-cases false a b e = inr (refl, e)
 pub put-front : {A : Type 0} (x d : List A) (i : ℕ) (b : A) → length x ≡ i → i < length d → set (x ++ drop i d) i b ≡ (x ++ b ∷ []) ++ drop (i + 1) d
 put-front x d i b e h = rw (add-one, drop-cons d i b h, set-at x (getD d i b) (drop (suc i) d) b i e, append-snoc x b (drop (suc i) d))
 
--- a flag that a helper returned, and the test that it is
+-- a flag that a function returned, and the test that it is
 pub flag-eq : (r : Bool) (a b : ℕ) → r ≡ eqb a b → r ≡ true → a ≡ b
 flag-eq r a b e t = eqb-true a b (sym e ∙ t)
 

@@ -1,3 +1,2 @@
-// Bytes read and compared, and letters lowered by a table.
+// Bytes read and compared.
 pub mod get;
-pub mod letters;

@@ -1,7 +1,7 @@
 // ASCII letters lowered by a table of 256 entries.
 ghost use mathlib.Core.Path.{_≡_};
 ghost use Rattle.rules.specs.Lists.{lower};
-ghost use Rattle.wire.specs.Letters.{Lowers};
+ghost use Rattle.letters.specs.Letters.{Lowers};
 
 // Each entry is its place, plus 32 exactly for A to Z.
 const LOWER: [u8; 256] = [
@@ -263,12 +263,6 @@ const LOWER: [u8; 256] = [
     255,
 ];
 
-pub fn lowered(b: u8) -> u8
-    ensures { λ r. ⌜ r ≡ lower b ⌝ }
-{
-    LOWER[b as usize]
-}
-
 // The table itself, for loops: taken once, it isn't laid out anew for each byte.
 pub fn letter_table() -> [u8; 256]
     ensures { λ r. ⌜ Lowers r ⌝ }
@@ -281,4 +275,11 @@ pub fn lowered_by(table: &[u8], b: u8) -> u8
     ensures { λ r. ⌜ r ≡ lower b ⌝ }
 {
     table[b as usize]
+}
+
+pub fn lowered(b: u8) -> u8
+    ensures { λ r. ⌜ r ≡ lower b ⌝ }
+{
+    let table = letter_table();
+    lowered_by(&table, b)
 }

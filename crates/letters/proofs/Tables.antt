@@ -7,7 +7,7 @@ use native.Mathlib.Nat.{add-zero, zero-add, add-suc, suc-add, le-of-suc-le-suc, 
 use lib.Dec.{T, eqb, eqb→eq}
 use lib.ListN.{length, getD}
 use Rattle.rules.specs.Lists.{lower}
-use Rattle.wire.specs.Letters.{Lowers}
+use Rattle.letters.specs.Letters.{Lowers}
 
 abbrev pub both : Bool → Bool → Bool
 both true b = b

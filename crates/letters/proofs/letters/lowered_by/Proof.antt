@@ -1,7 +1,7 @@
-use Rattle.wire.proofs.Tables.{lowers-at}
+use Rattle.letters.proofs.Tables.{lowers-at}
 use borrow.Author.Needs.{needs}
-use Rattle.wire.proofs.letters.lowered_by.Statement.{statement}
-use Rattle.wire.proofs.letters.lowered_by.Tie as tie
+use Rattle.letters.proofs.letters.lowered_by.Statement.{statement}
+use Rattle.letters.proofs.letters.lowered_by.Tie as tie
 
 shared-slice-read-result : tie.Need-shared-slice-read-result
 shared-slice-read-result c = search needs

@@ -1,0 +1,2 @@
+// Letters lowered by a table.
+pub mod letters;
