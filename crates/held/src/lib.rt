@@ -53,7 +53,7 @@ pub fn ask<'a, 'b, 'c>(
 }
 
 // What is at a place of bytes, by a reader that begins there: whoever calls it with plain bytes needs no reader.
-fn record_from(bytes: &[u8], at: usize) -> Found
+pub fn record_from(bytes: &[u8], at: usize) -> Found
     ensures { λ f. ⌜ f ≡ foundAt (now (bytes .entry)) at ⌝ }
 {
     peek(Reader { bytes, at })

@@ -17,7 +17,7 @@ use Rattle.rules.proofs.Decoding.{wire-lower}
 use Rattle.stream.specs.declared.Span.{Span}
 use Rattle.stream.specs.Spans.{part, IsSpan}
 use Rattle.stream.proofs.Heads.{decode-nil}
-use Rattle.level.specs.Ranks.{rankOf, largest, seenRank, rankIn}
+use Rattle.ranks.specs.Ranks.{rankOf, largest, seenRank, rankIn}
 use Rattle.level.proofs.Levels.{most-rank}
 
 -- ---- a place of whole records

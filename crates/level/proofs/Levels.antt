@@ -14,7 +14,7 @@ use Rattle.rules.specs.Records.{Record}
 use Rattle.rules.specs.Questions.{Placed, ordinaryOf, wildcardOf, ancestorsFrom, ancestors, firstFull, level}
 use Rattle.rules.proofs.Tests.{and-r}
 use Rattle.rules.proofs.Names.{labels-of, short-of}
-use Rattle.level.specs.Ranks.{rankAmong, rankOf, largest, chosen}
+use Rattle.ranks.specs.Ranks.{rankAmong, rankOf, largest, chosen}
 
 -- ---- one level more in front
 

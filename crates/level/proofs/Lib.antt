@@ -1,6 +1,2 @@
 pub mod Levels
-pub mod Lowering
-pub mod Ranking
-pub mod Related
-pub mod KeyRanks
 pub mod Bests

@@ -1,147 +1,17 @@
 // The pass that finds the level of a question: the largest rank of the records that the client sees.
 ghost use mathlib.Core.Path.{_≡_};
-ghost use mathlib.Core.Bool.{true, _||_};
+ghost use mathlib.Core.Bool.{true};
 ghost use mathlib.Core.List.{[], map};
 ghost use Prim.Native.Nat.{_≤_};
 ghost use lib.ListN.{length, drop};
-ghost use lib.Dec.{eqb};
-ghost use Rattle.rules.specs.Lists.{lower, sameBytes, isSome, valueOr};
+ghost use Rattle.rules.specs.Lists.{lower, isSome, valueOr};
 ghost use Rattle.rules.specs.Names.{isWire};
 ghost use Rattle.rules.specs.Records.{loBytes};
-ghost use Rattle.rules.specs.Questions.{ancestors};
-ghost use Rattle.rules.specs.Reading.{recordIn, decode};
-ghost use Rattle.level.specs.Ranks.{among, endsIn, keyRank, rankIn, seenRank, largest};
-use judge::Seen;
-use judge::known_in;
+ghost use Rattle.rules.specs.Reading.{decode};
+ghost use Rattle.ranks.specs.Ranks.{seenRank, largest};
+use ranks::rank_in;
 use rules::quantities::Lo;
 use stream::span_at;
-use view::visible;
-use wire::get::wide;
-use letters::letters::lowered;
-
-// Whether a byte of a key is a byte with its letter lowered. It is computed: the table would be laid out anew for each byte.
-fn is_lowered(key: u8, b: u8) -> bool
-    ensures { λ r. ⌜ r ≡ eqb key (lower b) ⌝ }
-{
-    if b < 65 {
-        return key == b;
-    }
-    if 90 < b {
-        return key == b;
-    }
-    key == b + 32
-}
-
-// Whether a key is a name with its letters lowered.
-fn same_lowered(key: &[u8], name: &[u8]) -> bool
-    ensures { λ r. ⌜ r ≡ sameBytes (now (key .entry)) (map lower (now (name .entry))) ⌝ }
-{
-    let n = key.len();
-    if n != name.len() {
-        return false;
-    }
-    let mut i: usize = 0;
-    while i < n {
-        if !is_lowered(key[i], name[i]) {
-            return false;
-        }
-        i += 1;
-    }
-    true
-}
-
-// Whether a key is what stands behind some label of a name. An ancestor is shorter than the name.
-fn is_ancestor(name: &[u8], key: &[u8]) -> bool
-    ensures { λ r. ⌜ r ≡ among (now (key .entry)) (ancestors (map lower (now (name .entry)))) ⌝ }
-{
-    let n = name.len();
-    if n <= key.len() {
-        return false;
-    }
-    let mut i: usize = 0;
-    while i < n {
-        let first = lowered(name[i]);
-        let label = wide(first);
-        if label == 0 {
-            return false;
-        }
-        if ((n - i - 1) as u64) < label {
-            return false;
-        }
-        let next = i + 1 + label as usize;
-        if same_lowered(key, &name[next..]) {
-            return true;
-        }
-        i = next;
-    }
-    false
-}
-
-// Whether a name ends in a key, as it does in those that can answer for it. Most keys are told by a byte.
-pub fn is_end(name: &[u8], key: &[u8]) -> bool
-    ensures { λ r. ⌜ r ≡ endsIn (map lower (now (name .entry))) (now (key .entry)) ⌝ }
-{
-    let n = name.len();
-    if n < key.len() {
-        return false;
-    }
-    let front = n - key.len();
-    same_lowered(key, &name[front..])
-}
-
-// Whether a record of this key can answer for a name at all.
-fn is_related(name: &[u8], key: &[u8]) -> bool
-    ensures { λ r. ⌜ r ≡ (sameBytes (now (key .entry)) (map lower (now (name .entry))) || among (now (key .entry)) (ancestors (map lower (now (name .entry))))) ⌝ }
-{
-    if !is_end(name, key) {
-        return false;
-    }
-    if name.len() == key.len() {
-        return true;
-    }
-    is_ancestor(name, key)
-}
-
-// 256 for an ordinary record of the name, the key's length for a wildcard of an ancestor, else 0.
-fn rank(name: &[u8], key: &[u8], wild: bool) -> usize
-    ensures { λ r. ⌜ r ≡ keyRank (map lower (now (name .entry))) (now (key .entry)) wild ⌝ }
-{
-    if wild {
-        if is_ancestor(name, key) {
-            return key.len();
-        }
-        return 0;
-    }
-    if same_lowered(key, name) {
-        return 256;
-    }
-    0
-}
-
-// The rank of a record that a client who is here sees at a moment, 0 for any other. The key alone rules most records out.
-pub fn rank_in(name: &[u8], here: Lo, moment: u64, key: &[u8], rdata: &[u8]) -> usize
-    requires { ⌜ isSome (recordIn (now key) (now rdata)) ≡ true ⌝ }
-    ensures { λ r. ⌜ r ≡ rankIn (map lower (now (name .entry))) (loBytes here) moment (recordIn (now (key .entry)) (now (rdata .entry))) ⌝ }
-{
-    if !is_related(name, key) {
-        return 0;
-    }
-    match known_in(key, rdata) {
-        Seen::Broken => 0,
-        Seen::Location(_) => 0,
-        Seen::Resource {
-            wild,
-            rtype: _,
-            shared,
-            fixed: _,
-        } => {
-            if !visible(here, moment, shared) {
-                return 0;
-            }
-            rank(name, key, wild)
-        }
-    }
-}
 
 // The largest rank in a stream of whole records from a place on. None is above that of the name's own records.
 pub fn best_rank(stream: &[u8], name: &[u8], here: Lo, moment: u64, from: usize) -> usize

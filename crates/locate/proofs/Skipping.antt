@@ -12,9 +12,9 @@ use Rattle.rules.specs.Lists.{pick, valueOr}
 use Rattle.rules.specs.Reading.{recordIn, decode}
 use Rattle.stream.specs.declared.Span.{Span}
 use Rattle.stream.specs.Spans.{IsSpan}
-use Rattle.level.specs.Ranks.{endsIn, rankIn, largest, seenRank}
-use Rattle.level.proofs.KeyRanks.{unrelated}
-use Rattle.level.proofs.Related.{not-end}
+use Rattle.ranks.specs.Ranks.{endsIn, rankIn, largest, seenRank}
+use Rattle.ranks.proofs.KeyRanks.{unrelated}
+use Rattle.ranks.proofs.Related.{not-end}
 use Rattle.level.proofs.Bests.{rest-whole, no-larger}
 use Rattle.locate.specs.Skips.{Skips, skipped}
 use Rattle.picks.proofs.Picking.{other-rank, not-picked}

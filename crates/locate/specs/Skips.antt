@@ -7,7 +7,7 @@ use lib.ListN.{length, drop}
 use lib.Dec.{eqb}
 use Rattle.rules.specs.Lists.{pick, isSome, valueOr}
 use Rattle.rules.specs.Reading.{decode}
-use Rattle.level.specs.Ranks.{endsIn, largest, seenRank}
+use Rattle.ranks.specs.Ranks.{endsIn, largest, seenRank}
 use Rattle.picks.specs.Picks.{pickedFrom}
 
 -- of whole records, those from there on have the same ranks and give the same answers

@@ -9,7 +9,7 @@ ghost use Rattle.locate.specs.Locations.{bestSeen, betterIn, judgedLo, l
 ghost use Rattle.locate.specs.Skips.{Skips, skipped};
 use judge::Seen;
 use judge::record_in;
-use level::is_end;
+use ranks::is_end;
 use rules::quantities::Lo;
 use stream::span_at;
 use wire::get::begins_with;

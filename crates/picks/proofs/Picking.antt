@@ -25,7 +25,7 @@ use Rattle.judge.specs.Seen.{ownerOf, seenRecord, fixedIn}
 use Rattle.stream.specs.Spans.{IsSpan}
 use Rattle.stream.proofs.Heads.{decode-nil}
 use Rattle.view.specs.Views.{sharing}
-use Rattle.level.specs.Ranks.{seenRank, rankIn}
+use Rattle.ranks.specs.Ranks.{seenRank, rankIn}
 use Rattle.picks.specs.Picks.{wanted, wantedIn, replyIn, pickedFrom}
 use Rattle.judge.proofs.Shapes.{shaped, size-is}
 use Rattle.level.proofs.Bests.{Whole, whole-at, record-whole, rest-whole}

@@ -10,7 +10,7 @@ use Rattle.rules.specs.Lists.{keep}
 use Rattle.rules.specs.Records.{Record, location, resource}
 use Rattle.rules.specs.Questions.{placedFrom, ofType}
 use Rattle.rules.specs.Reading.{replyOf}
-use Rattle.level.specs.Ranks.{seenRank}
+use Rattle.ranks.specs.Ranks.{seenRank}
 
 -- seen, of the level, and of the type
 unfoldable pub wanted : ℕ → List ℕ → List ℕ → ℕ → ℕ → Record → Bool

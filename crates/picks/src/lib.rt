@@ -10,7 +10,7 @@ ghost use Rattle.rules.specs.Reading.{recordIn, decode};
 ghost use Rattle.picks.specs.Picks.{wantedIn, replyIn, pickedFrom};
 use judge::Seen;
 use judge::known_in;
-use level::rank_in;
+use ranks::rank_in;
 use rules::quantities::Lo;
 use rules::replies::Reply;
 use stream::span_at;

@@ -16,7 +16,7 @@ use Rattle.rules.specs.Bytes.{size}
 use Rattle.rules.specs.Questions.{Placed, placedFrom, visible, level, ofType}
 use Rattle.rules.specs.Reading.{replyOf, decode}
 use Rattle.rules.proofs.Decoding.{wire-lower}
-use Rattle.level.specs.Ranks.{rankOf, largest, chosen, seenRank}
+use Rattle.ranks.specs.Ranks.{rankOf, largest, chosen, seenRank}
 use Rattle.picks.specs.Picks.{wanted, pickedFrom}
 use Rattle.reader.specs.Answers.{answeredFrom}
 use Rattle.locate.specs.Skips.{Skips}

@@ -6,7 +6,7 @@ use Rattle.rules.specs.Records.{loBytes}
 use Rattle.rules.specs.Reading.{decode}
 use mathlib.Core.Bool.{true}
 use Rattle.rules.specs.Lists.{lower, isSome, valueOr}
-use Rattle.level.specs.Ranks.{largest, seenRank}
+use Rattle.ranks.specs.Ranks.{largest, seenRank}
 use Rattle.level.proofs.Bests.{best·laws}
 use Rattle.level.proofs.best_rank.Statement.{statement}
 use Rattle.level.proofs.best_rank.Tie as tie

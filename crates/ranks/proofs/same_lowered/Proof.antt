@@ -3,9 +3,9 @@ use mathlib.Core.Path.{_≡_}
 use mathlib.Core.List.{map}
 use lib.ListN.{length, drop}
 use Rattle.rules.specs.Lists.{lower, sameBytes}
-use Rattle.level.proofs.Lowering.{same·laws}
-use Rattle.level.proofs.same_lowered.Statement.{statement}
-use Rattle.level.proofs.same_lowered.Tie as tie
+use Rattle.ranks.proofs.Lowering.{same·laws}
+use Rattle.ranks.proofs.same_lowered.Statement.{statement}
+use Rattle.ranks.proofs.same_lowered.Tie as tie
 
 abbrev Inv-loop : tie.InvT-loop
 Inv-loop key name n i₀ i = (i ≤ length key) × (length key ≡ length name) × (sameBytes (drop i key) (drop i (map lower name)) ≡ sameBytes key (map lower name))

@@ -1,6 +1,6 @@
-use Rattle.level.proofs.KeyRanks.{rank-in·laws}
-use Rattle.level.proofs.rank_in.Statement.{statement}
-use Rattle.level.proofs.rank_in.Tie as tie
+use Rattle.ranks.proofs.KeyRanks.{rank-in·laws}
+use Rattle.ranks.proofs.rank_in.Statement.{statement}
+use Rattle.ranks.proofs.rank_in.Tie as tie
 
 is-related-requires : tie.Need-is-related-requires
 is-related-requires c κs = search rank-in·laws

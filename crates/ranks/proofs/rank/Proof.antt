@@ -1,6 +1,6 @@
-use Rattle.level.proofs.KeyRanks.{rank·laws}
-use Rattle.level.proofs.rank.Statement.{statement}
-use Rattle.level.proofs.rank.Tie as tie
+use Rattle.ranks.proofs.KeyRanks.{rank·laws}
+use Rattle.ranks.proofs.rank.Statement.{statement}
+use Rattle.ranks.proofs.rank.Tie as tie
 
 is-ancestor-requires : tie.Need-is-ancestor-requires
 is-ancestor-requires c κs = search rank·laws

@@ -1,6 +1,6 @@
-use Rattle.level.proofs.Related.{end·laws}
-use Rattle.level.proofs.is_end.Statement.{statement}
-use Rattle.level.proofs.is_end.Tie as tie
+use Rattle.ranks.proofs.Related.{end·laws}
+use Rattle.ranks.proofs.is_end.Statement.{statement}
+use Rattle.ranks.proofs.is_end.Tie as tie
 
 returns : tie.Need-returns
 returns c = search end·laws

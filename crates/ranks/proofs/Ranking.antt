@@ -12,7 +12,7 @@ use Rattle.rules.specs.Questions.{ancestorsFrom, ancestors}
 use Rattle.wire.proofs.Steps.{left-at}
 use Rattle.wire.proofs.Parts.{tail-lent}
 use Rattle.wire.proofs.Compare.{other-length}
-use Rattle.level.specs.Ranks.{among}
+use Rattle.ranks.specs.Ranks.{among}
 
 -- ---- the ancestors of a name, label by label
 

@@ -1,6 +1,6 @@
-use Rattle.level.proofs.Related.{related·laws}
-use Rattle.level.proofs.is_related.Statement.{statement}
-use Rattle.level.proofs.is_related.Tie as tie
+use Rattle.ranks.proofs.Related.{related·laws}
+use Rattle.ranks.proofs.is_related.Statement.{statement}
+use Rattle.ranks.proofs.is_related.Tie as tie
 
 is-end-requires : tie.Need-is-end-requires
 is-end-requires c κs = search related·laws

@@ -1,6 +1,6 @@
-use Rattle.level.proofs.Lowering.{letter·laws}
-use Rattle.level.proofs.is_lowered.Statement.{statement}
-use Rattle.level.proofs.is_lowered.Tie as tie
+use Rattle.ranks.proofs.Lowering.{letter·laws}
+use Rattle.ranks.proofs.is_lowered.Statement.{statement}
+use Rattle.ranks.proofs.is_lowered.Tie as tie
 
 returns : tie.Need-returns
 returns c = search letter·laws

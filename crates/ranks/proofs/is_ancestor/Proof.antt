@@ -4,10 +4,10 @@ use lib.ListN.{length, drop}
 use mathlib.Core.List.{map}
 use Rattle.rules.specs.Lists.{lower}
 use Rattle.rules.specs.Questions.{ancestors}
-use Rattle.level.specs.Ranks.{among}
-use Rattle.level.proofs.Ranking.{ancestor·laws}
-use Rattle.level.proofs.is_ancestor.Statement.{statement}
-use Rattle.level.proofs.is_ancestor.Tie as tie
+use Rattle.ranks.specs.Ranks.{among}
+use Rattle.ranks.proofs.Ranking.{ancestor·laws}
+use Rattle.ranks.proofs.is_ancestor.Statement.{statement}
+use Rattle.ranks.proofs.is_ancestor.Tie as tie
 
 abbrev Inv-loop : tie.InvT-loop
 Inv-loop name key n i₀ i = (i ≤ length name) × (among key (ancestors (drop i (map lower name))) ≡ among key (ancestors (map lower name)))

@@ -13,8 +13,8 @@ use Rattle.rules.specs.Questions.{ancestorsFrom, ancestors}
 use Rattle.rules.proofs.Lists.{same-length}
 use Rattle.wire.proofs.Parts.{tail-lent}
 use Rattle.wire.proofs.Compare.{other-length-lowered}
-use Rattle.level.specs.Ranks.{among, endsIn}
-use Rattle.level.proofs.Ranking.{drop-map}
+use Rattle.ranks.specs.Ranks.{among, endsIn}
+use Rattle.ranks.proofs.Ranking.{drop-map}
 
 -- ---- the end of a name
 

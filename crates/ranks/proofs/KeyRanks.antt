@@ -23,7 +23,7 @@ use Rattle.judge.specs.declared.Seen.{Seen}
 use Rattle.keys.specs.Keys.{goodKey}
 use Rattle.judge.specs.Seen.{ownerOf, seenRecord}
 use Rattle.view.specs.Views.{sharing}
-use Rattle.level.specs.Ranks.{rankAmong, rankOf, among, keyRank, seenRank, rankIn}
+use Rattle.ranks.specs.Ranks.{rankAmong, rankOf, among, keyRank, seenRank, rankIn}
 use Rattle.judge.proofs.Shapes.{Shape, shape, shaped, is-false}
 
 -- ---- keys
