@@ -15,7 +15,7 @@ use Rattle.rules.proofs.Lists.{all-head, all-tail}
 use Rattle.rules.proofs.GoodLines.{kind-done}
 use Rattle.rules.proofs.Numbers.{length-be}
 use Rattle.buffer.specs.Put.{IsPut}
-use Rattle.wire.proofs.Parts.{front-count}
+use Rattle.wire.proofs.Parts.{lentAt, backAt, front-count}
 use Rattle.heads.specs.Head.{headSize}
 use Rattle.names.specs.Held.{heldName, IsName}
 use Rattle.names.specs.declared.names.Name.{Name}
@@ -23,7 +23,7 @@ use Rattle.splits.specs.declared.splits.Span.{Span}
 use Rattle.values.specs.Ready.{Ready}
 use Rattle.hosts.specs.HostLines.{middleOf, IsHostLine, hostRecords}
 use Rattle.hosts.specs.declared.hosts.HostLine.{HostLine}
-use Rattle.zones.specs.ZoneLines.{zoneRecords}
+use Rattle.zones.specs.ZoneLines.{soaRecord, zoneRecords}
 use Rattle.hosts.proofs.HostRecords.{lendable, same-read}
 use Rattle.records.proofs.Sequence.{rest-fits, rest-starts, rest-put, first-fits, room-of, put-of}
 use Rattle.names.proofs.Holding.{held-short, held-long}
@@ -66,7 +66,7 @@ lasting shared e = rw (ne-eqb _ _ e)
 module _ (serial : ℕ) (h : HostLine) (shared : Shared) (contact : Name) (e : shared ≡ soaShared (h .shared)) (c : IsName (contactOf (heldName (h .owner))) contact) where
   pub authority-put : (d f : List ℕ) (r : ℕ)
       → IsPut (encode (resourceOf shared (heldName (h .owner)) 6 (soaData (heldName (h .host)) (heldName contact) serial 16384 2048 1048576 2560))) d f r
-      → IsPut (encode (resourceOf (soaShared (h .shared)) (heldName (h .owner)) 6 (soaData (heldName (h .host)) (contactOf (heldName (h .owner))) serial 16384 2048 1048576 2560))) d f r
+      → IsPut (encode (soaRecord serial h)) d f r
   authority-put d f r q = rw (← e, ← (c .held)) q
 
   pub authority-room : (n : ℕ) → length (bytesOf (zoneRecords serial h)) ≤ n → headSize shared (heldName (h .owner)) + (20 + length (heldName (h .host)) + length (heldName contact)) ≤ n
@@ -79,6 +79,12 @@ module _ (serial : ℕ) (h : HostLine) (shared : Shared) (contact : Name) (e : s
 pub ruleset authority·laws = (needs, front-count, authority-put, authority-room, held-short, held-long)
 
 -- the name server behind the SOA
-pub ruleset zone·laws = (needs, rest-fits, rest-starts, rest-put)
+pub zone-put : (serial : ℕ) (s : List ℕ) (h : HostLine) (d e f : List ℕ) (a k : ℕ) → IsHostLine Kind.Zone s h → length (bytesOf (recordsOf serial Kind.Zone (splitOn 58 s))) ≤ length d
+    → IsPut (encode (soaRecord serial h)) d e a → IsPut (bytesOf (hostRecords h 2 [])) (lentAt a e) f k
+    → IsPut (bytesOf (recordsOf serial Kind.Zone (splitOn 58 s))) d (backAt a e f) (a + k)
+zone-put serial s h d e f a k p room q r =
+    let room′ = room-of (zoneRecords serial h) (recordsOf serial Kind.Zone (splitOn 58 s)) (zone-is serial s h p) (length d) room in
+    put-of (zoneRecords serial h) (recordsOf serial Kind.Zone (splitOn 58 s)) (zone-is serial s h p) d (backAt a e f) (a + k)
+    (rest-put (soaRecord serial h) (hostRecords h 2 []) d e a room′ q f k r)
 
-pub ruleset zone-line·laws = (needs, lendable, contact-short, room-of, put-of, zone-is, zone-label)
+pub ruleset zone-line·laws = (needs, lendable, contact-short, room-of, zone-is, zone-label, rest-fits, rest-starts)

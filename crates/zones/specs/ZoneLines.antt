@@ -7,6 +7,9 @@ use Rattle.names.specs.Held.{heldName}
 use Rattle.hosts.specs.declared.hosts.HostLine.{HostLine}
 use Rattle.hosts.specs.HostLines.{hostRecords}
 
+abbrev pub soaRecord : ℕ → HostLine → Record
+soaRecord serial h =
+    resourceOf (soaShared (h .shared)) (heldName (h .owner)) 6 (soaData (heldName (h .host)) (contactOf (heldName (h .owner))) serial 16384 2048 1048576 2560)
+
 abbrev pub zoneRecords : ℕ → HostLine → List Record
-zoneRecords serial h =
-    resourceOf (soaShared (h .shared)) (heldName (h .owner)) 6 (soaData (heldName (h .host)) (contactOf (heldName (h .owner))) serial 16384 2048 1048576 2560) ∷ hostRecords h 2 []
+zoneRecords serial h = soaRecord serial h ∷ hostRecords h 2 []

@@ -4,14 +4,14 @@ ghost use mathlib.Core.List.{[], _∷_};
 ghost use Prim.Native.Nat.{_≤_};
 ghost use lib.ListN.{length};
 ghost use Rattle.rules.specs.Lists.{splitOn, be};
-ghost use Rattle.rules.specs.Records.{resourceOf, contactOf, soaData, soaShared, recordsOf};
+ghost use Rattle.rules.specs.Records.{contactOf, soaShared, recordsOf};
 ghost use Rattle.rules.specs.Bytes.{encode, bytesOf};
 ghost use Rattle.rules.specs.declared.kinds.Kind.{Kind};
 ghost use Rattle.buffer.specs.Put.{IsPut};
 ghost use Rattle.names.specs.Held.{heldName};
 ghost use Rattle.values.specs.Ready.{Ready};
 ghost use Rattle.hosts.specs.HostLines.{Lendable, hostRecords};
-ghost use Rattle.zones.specs.ZoneLines.{zoneRecords};
+ghost use Rattle.zones.specs.ZoneLines.{soaRecord, zoneRecords};
 use a_aaaa::a_aaaa::put_address;
 use contacts::contacts::read_contact;
 use hosts::hosts::HostLine;
@@ -65,7 +65,7 @@ fn soa_shared(shared: Shared) -> Shared
 // The SOA of a zone line.
 fn put_authority(out: &mut [u8], line: HostLine, serial: u32) -> usize
     requires { ⌜ Lendable line × (length (contactOf (heldName (line .owner))) ≤ 255) × (length (bytesOf (zoneRecords serial line)) ≤ length (now out)) ⌝ }
-    ensures { λ r. ⌜ IsPut (encode (resourceOf (soaShared (line .shared)) (heldName (line .owner)) 6 (soaData (heldName (line .host)) (contactOf (heldName (line .owner))) serial 16384 2048 1048576 2560))) (now (out .entry)) (now (out .exit)) r ⌝ }
+    ensures { λ r. ⌜ IsPut (encode (soaRecord serial line)) (now (out .entry)) (now (out .exit)) r ⌝ }
 {
     let owner_bytes = line.owner.bytes;
     let owner_len = line.owner.len;
@@ -91,22 +91,14 @@ fn put_authority(out: &mut [u8], line: HostLine, serial: u32) -> usize
     )
 }
 
-// The SOA, the name server and its address.
-fn put_zone(out: &mut [u8], line: HostLine, serial: u32) -> usize
-    requires { ⌜ Lendable line × (length (contactOf (heldName (line .owner))) ≤ 255) × (length (bytesOf (zoneRecords serial line)) ≤ length (now out)) ⌝ }
-    ensures { λ r. ⌜ IsPut (bytesOf (zoneRecords serial line)) (now (out .entry)) (now (out .exit)) r ⌝ }
-{
-    let used = put_authority(out, line, serial);
-    used + put_server(&mut out[used..], line)
-}
-
 pub fn put_zone_line(out: &mut [u8], rest: &[u8], spans: [Span; 11], serial: u32) -> usize
     requires { ⌜ Ready Kind.Zone (now rest) spans × (length (bytesOf (recordsOf serial Kind.Zone (splitOn 58 (now rest)))) ≤ length (now out)) ⌝ }
     ensures { λ r. ⌜ IsPut (bytesOf (recordsOf serial Kind.Zone (splitOn 58 (now (rest .entry))))) (now (out .entry)) (now (out .exit)) r ⌝ }
 {
     let ns = NS;
     let line = host_line(rest, spans, Kind::Zone, &ns);
-    put_zone(out, line, serial)
+    let used = put_authority(out, line, serial);
+    used + put_server(&mut out[used..], line)
 }
 
 pub fn put_delegation_line(out: &mut [u8], rest: &[u8], spans: [Span; 11]) -> usize
