@@ -48,7 +48,7 @@ fn question(bytes: &[u8], name: &[u8], words: &str, count: usize, rounds: usize)
         }),
     ];
     let title = format!("ask: {count} records, {} bytes, {words}", bytes.len());
-    compare(&title, rounds.min(400), contenders);
+    compare(&title, rounds, contenders);
 }
 
 /// The least that any reader does: lengths read, keys compared. Gives the
