@@ -11,14 +11,15 @@ ghost use Rattle.rules.specs.Reading.{decode};
 ghost use Rattle.ranks.specs.Ranks.{seenRank, largest};
 use ranks::rank_in;
 use rules::quantities::Lo;
+use rules::quantities::Moment;
 use stream::span_at;
 
 // The largest rank in a stream of whole records from a place on. None is above that of the name's own records.
-pub fn best_rank(stream: &[u8], name: &[u8], here: Lo, moment: u64, from: usize) -> usize
+pub fn best_rank(stream: &[u8], name: &[u8], here: Lo, moment: Moment, from: usize) -> usize
     requires { ⌜ isWire (now name) ≡ true ⌝ }
     requires { ⌜ from ≤ length (now stream) ⌝ }
     requires { ⌜ isSome (decode (drop from (now stream))) ≡ true ⌝ }
-    ensures { λ r. ⌜ r ≡ largest (seenRank (map lower (now (name .entry))) (loBytes here) moment) (valueOr [] (decode (drop from (now (stream .entry))))) ⌝ }
+    ensures { λ r. ⌜ r ≡ largest (seenRank (map lower (now (name .entry))) (loBytes here) (moment .0)) (valueOr [] (decode (drop from (now (stream .entry))))) ⌝ }
 {
     let n = stream.len();
     let mut best: usize = 0;

@@ -12,6 +12,7 @@ use judge::Seen;
 use judge::known_in;
 use ranks::rank_in;
 use rules::quantities::Lo;
+use rules::quantities::Moment;
 use rules::replies::Reply;
 use stream::span_at;
 use view::lifetime;
@@ -21,13 +22,13 @@ fn is_wanted(
     name: &[u8],
     qtype: u16,
     here: Lo,
-    moment: u64,
+    moment: Moment,
     best: usize,
     key: &[u8],
     rdata: &[u8],
 ) -> bool
     requires { ⌜ isSome (recordIn (now key) (now rdata)) ≡ true ⌝ }
-    ensures { λ r. ⌜ r ≡ wantedIn qtype (map lower (now (name .entry))) (loBytes here) moment best (recordIn (now (key .entry)) (now (rdata .entry))) ⌝ }
+    ensures { λ r. ⌜ r ≡ wantedIn qtype (map lower (now (name .entry))) (loBytes here) (moment .0) best (recordIn (now (key .entry)) (now (rdata .entry))) ⌝ }
 {
     if rank_in(name, here, moment, key, rdata) != best {
         return false;
@@ -50,10 +51,10 @@ fn is_wanted(
 }
 
 // What is answered of a record that ends at a place.
-fn reply_in(moment: u64, end: usize, key: &[u8], rdata: &[u8]) -> Reply
+fn reply_in(moment: Moment, end: usize, key: &[u8], rdata: &[u8]) -> Reply
     requires { ⌜ length (now rdata) ≤ end ⌝ }
     requires { ⌜ isSome (recordIn (now key) (now rdata)) ≡ true ⌝ }
-    ensures { λ r. ⌜ r ≡ replyIn moment end (recordIn (now (key .entry)) (now (rdata .entry))) ⌝ }
+    ensures { λ r. ⌜ r ≡ replyIn (moment .0) end (recordIn (now (key .entry)) (now (rdata .entry))) ⌝ }
 {
     match known_in(key, rdata) {
         Seen::Broken => Reply::NoMore,
@@ -83,14 +84,14 @@ pub fn pick_record(
     name: &[u8],
     qtype: u16,
     here: Lo,
-    moment: u64,
+    moment: Moment,
     best: usize,
     ordinal: u64,
     from: usize,
 ) -> Reply
     requires { ⌜ from ≤ length (now stream) ⌝ }
     requires { ⌜ isSome (decode (drop from (now stream))) ≡ true ⌝ }
-    ensures { λ r. ⌜ r ≡ pickedFrom qtype (map lower (now (name .entry))) (loBytes here) moment best from ordinal (valueOr [] (decode (drop from (now (stream .entry))))) ⌝ }
+    ensures { λ r. ⌜ r ≡ pickedFrom qtype (map lower (now (name .entry))) (loBytes here) (moment .0) best from ordinal (valueOr [] (decode (drop from (now (stream .entry))))) ⌝ }
 {
     let n = stream.len();
     let mut left = ordinal;

@@ -12,6 +12,7 @@ use judge::Seen;
 use judge::known_in;
 use letters::letters::lowered;
 use rules::quantities::Lo;
+use rules::quantities::Moment;
 use view::visible;
 use wire::get::wide;
 
@@ -115,9 +116,9 @@ fn rank(name: &[u8], key: &[u8], wild: bool) -> usize
 }
 
 // The rank of a record that a client who is here sees at a moment, 0 for any other. The key alone rules most records out.
-pub fn rank_in(name: &[u8], here: Lo, moment: u64, key: &[u8], rdata: &[u8]) -> usize
+pub fn rank_in(name: &[u8], here: Lo, moment: Moment, key: &[u8], rdata: &[u8]) -> usize
     requires { ⌜ isSome (recordIn (now key) (now rdata)) ≡ true ⌝ }
-    ensures { λ r. ⌜ r ≡ rankIn (map lower (now (name .entry))) (loBytes here) moment (recordIn (now (key .entry)) (now (rdata .entry))) ⌝ }
+    ensures { λ r. ⌜ r ≡ rankIn (map lower (now (name .entry))) (loBytes here) (moment .0) (recordIn (now (key .entry)) (now (rdata .entry))) ⌝ }
 {
     if !is_related(name, key) {
         return 0;

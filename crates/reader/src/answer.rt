@@ -11,6 +11,7 @@ ghost use Rattle.reader.specs.Answers.{answeredFrom};
 use level::best_rank;
 use picks::pick_record;
 use rules::quantities::Lo;
+use rules::quantities::Moment;
 use rules::replies::Reply;
 
 // The answer of a stream of whole records to a client who is here. Nothing before the place given can answer.
@@ -19,14 +20,14 @@ pub fn answer(
     name: &[u8],
     qtype: u16,
     here: Lo,
-    moment: u64,
+    moment: Moment,
     ordinal: u64,
     from: usize,
 ) -> Reply
     requires { ⌜ isWire (now name) ≡ true ⌝ }
     requires { ⌜ isSome (decode (now stream)) ≡ true ⌝ }
     requires { ⌜ Skips (map lower (now name)) (now stream) from ⌝ }
-    ensures { λ r. ⌜ r ≡ answeredFrom qtype (map lower (now (name .entry))) (loBytes here) moment ordinal (valueOr [] (decode (now (stream .entry)))) ⌝ }
+    ensures { λ r. ⌜ r ≡ answeredFrom qtype (map lower (now (name .entry))) (loBytes here) (moment .0) ordinal (valueOr [] (decode (now (stream .entry)))) ⌝ }
 {
     let best = best_rank(stream, name, here, moment, from);
     if best == 0 {

@@ -8,6 +8,7 @@ ghost use Rattle.rules.specs.Records.{loBytes};
 ghost use Rattle.rules.specs.Questions.{inTime, visible, lifetimeOf};
 ghost use Rattle.view.specs.Views.{sharing};
 use rules::quantities::Lo;
+use rules::quantities::Moment;
 use rules::quantities::Shared;
 use rules::quantities::Ttl;
 
@@ -30,32 +31,32 @@ fn is_here(lo: Lo, here: Lo) -> bool
 }
 
 // From its time on, or with ttl 0 before it; without a time always.
-fn in_time(moment: u64, ttl: u32, time: u64) -> bool
-    ensures { λ r. ⌜ r ≡ inTime moment ttl time ⌝ }
+fn in_time(moment: Moment, ttl: Ttl, time: Moment) -> bool
+    ensures { λ r. ⌜ r ≡ inTime (moment .0) (ttl .0) (time .0) ⌝ }
 {
-    if time == 0 {
+    if time.0 == 0 {
         return true;
     }
-    if ttl == 0 {
-        return moment < time;
+    if ttl.0 == 0 {
+        return moment.0 < time.0;
     }
-    time <= moment
+    time.0 <= moment.0
 }
 
 // Whether a client who is here sees a record at a moment.
-pub fn visible(here: Lo, moment: u64, shared: Shared) -> bool
-    ensures { λ r. ⌜ r ≡ visible (loBytes here) moment (sharing shared) ⌝ }
+pub fn visible(here: Lo, moment: Moment, shared: Shared) -> bool
+    ensures { λ r. ⌜ r ≡ visible (loBytes here) (moment .0) (sharing shared) ⌝ }
 {
     let lo = shared.lo;
     if !is_here(lo, here) {
         return false;
     }
-    in_time(moment, shared.ttl.0, shared.time.0)
+    in_time(moment, shared.ttl, shared.time)
 }
 
 // The ttl; or for a record that ends, the seconds left, at least 2 and at most 3,600.
-pub fn lifetime(moment: u64, shared: Shared) -> Ttl
-    ensures { λ r. ⌜ r ≡ record { 0 = lifetimeOf moment (sharing shared) } ⌝ }
+pub fn lifetime(moment: Moment, shared: Shared) -> Ttl
+    ensures { λ r. ⌜ r ≡ record { 0 = lifetimeOf (moment .0) (sharing shared) } ⌝ }
 {
     let ttl = shared.ttl.0;
     let time = shared.time.0;
@@ -65,10 +66,10 @@ pub fn lifetime(moment: u64, shared: Shared) -> Ttl
     if time == 0 {
         return Ttl(0);
     }
-    if time <= moment {
+    if time <= moment.0 {
         return Ttl(2);
     }
-    let left = time - moment;
+    let left = time - moment.0;
     if left < 2 {
         return Ttl(2);
     }

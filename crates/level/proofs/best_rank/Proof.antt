@@ -13,7 +13,7 @@ use Rattle.level.proofs.best_rank.Tie as tie
 
 abbrev Inv-loop : tie.InvT-loop
 Inv-loop stream name here moment from n best₀ at₀ best at = (at ≤ length stream) × (isSome (decode (drop at stream)) ≡ true)
-    × (max best (largest (seenRank (map lower name) (loBytes here) moment) (valueOr [] (decode (drop at stream)))) ≡ largest (seenRank (map lower name) (loBytes here) moment) (valueOr [] (decode (drop from stream))))
+    × (max best (largest (seenRank (map lower name) (loBytes here) (moment .0)) (valueOr [] (decode (drop at stream)))) ≡ largest (seenRank (map lower name) (loBytes here) (moment .0)) (valueOr [] (decode (drop from stream))))
 
 abbrev μ-loop : tie.MeasureT-loop
 μ-loop stream name here moment from n best₀ at₀ best at = length stream - at

@@ -13,8 +13,8 @@ use Rattle.picks.proofs.pick_record.Tie as tie
 
 abbrev Inv-loop : tie.InvT-loop
 Inv-loop stream name qtype here moment best ordinal from n left₀ at₀ left at = (at ≤ length stream) × (isSome (decode (drop at stream)) ≡ true)
-    × (pickedFrom qtype (map lower name) (loBytes here) moment best at left (valueOr [] (decode (drop at stream)))
-    ≡ pickedFrom qtype (map lower name) (loBytes here) moment best from ordinal (valueOr [] (decode (drop from stream))))
+    × (pickedFrom qtype (map lower name) (loBytes here) (moment .0) best at left (valueOr [] (decode (drop at stream)))
+    ≡ pickedFrom qtype (map lower name) (loBytes here) (moment .0) best from ordinal (valueOr [] (decode (drop from stream))))
 
 abbrev μ-loop : tie.MeasureT-loop
 μ-loop stream name qtype here moment best ordinal from n left₀ at₀ left at = length stream - at
