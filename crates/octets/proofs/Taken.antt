@@ -85,8 +85,8 @@ module _ (good : List ℕ → Bool) (bytes : List ℕ → List ℕ) (encode : �
   begin s values = rw (all-pieces b s) (none-taken good bytes (splitOn b s))
 
 module _ (good : List ℕ → Bool) (bytes : List ℕ → List ℕ) (encode : ℕ → List ℕ) (b : ℕ) (value : List ℕ → ℕ) (same : (t : List ℕ) → bytes t ≡ encode (value t)) (most : ℕ)
-  (s values : List ℕ) (count start end : ℕ) (e : Going good bytes encode b s values count start) (p : IsEnd b s start end)
-  (x : NumberRead) (q : IsPiece good value most (take (end - start) (drop start s)) x) where
+    (s values : List ℕ) (count start end : ℕ) (e : Going good bytes encode b s values count start) (p : IsEnd b s start end)
+    (x : NumberRead) (q : IsPiece good value most (take (end - start) (drop start s)) x) where
   pub bad : (wanted : Bool) → x ≡ NumberRead.Bad → addressIf wanted good bytes (splitOn b s) ≡ none
   bad wanted w = bad-piece e (piece-at p) wanted (bad-by (good (take (end - start) (drop start s))) _ (rw w at (q .says)))
 

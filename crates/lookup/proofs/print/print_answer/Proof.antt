@@ -12,6 +12,9 @@ enum-known-reply c = search (answered-inside, needs)
 print-question-requires : tie.Need-print-question-requires
 print-question-requires c κs = search (answered-inside, needs)
 
+returns : tie.Need-returns
+returns c = search (answered-inside, needs)
+
 print-reply-requires : tie.Need-print-reply-requires
 print-reply-requires c κs = search (answered-inside, needs)
 
@@ -21,11 +24,11 @@ enum-told c = search (answered-inside, needs)
 refuse-line-requires : tie.Need-refuse-line-requires
 refuse-line-requires c κs = search (answered-inside, needs)
 
-returns : tie.Need-returns
-returns c = search (answered-inside, needs)
-
 returns-2 : tie.Need-returns-2
 returns-2 c = search (answered-inside, needs)
+
+returns-3 : tie.Need-returns-3
+returns-3 c = search (answered-inside, needs)
 
 pub print-answer-spec : {M : Type 1} → statement M
 print-answer-spec =
@@ -34,8 +37,9 @@ print-answer-spec =
     answer-line-requires
     enum-known-reply
     print-question-requires
+    returns
     print-reply-requires
     enum-told
     refuse-line-requires
-    returns
-    returns-2)
+    returns-2
+    returns-3)

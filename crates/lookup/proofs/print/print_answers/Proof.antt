@@ -15,8 +15,8 @@ loop-holds c = search needs
 print-answer-requires : tie.Need-print-answer-requires Inv-loop μ-loop
 print-answer-requires c κs = search needs
 
-returns : tie.Need-returns Inv-loop μ-loop
-returns c = search needs
+enum-told : tie.Need-enum-told Inv-loop μ-loop
+enum-told c = search needs
 
 add-ordinal : tie.Need-add-ordinal Inv-loop μ-loop
 add-ordinal c = search needs
@@ -27,8 +27,20 @@ loop-less c = search needs
 loop-again : tie.Need-loop-again Inv-loop μ-loop
 loop-again c = search needs
 
+enum-told-2 : tie.Need-enum-told-2 Inv-loop μ-loop
+enum-told-2 c = search needs
+
+returns : tie.Need-returns Inv-loop μ-loop
+returns c = search needs
+
+enum-told-3 : tie.Need-enum-told-3 Inv-loop μ-loop
+enum-told-3 c = search needs
+
 returns-2 : tie.Need-returns-2 Inv-loop μ-loop
 returns-2 c = search needs
+
+returns-3 : tie.Need-returns-3 Inv-loop μ-loop
+returns-3 c = search needs
 
 pub print-answers-spec : {M : Type 1} → statement M
 print-answers-spec =
@@ -38,8 +50,12 @@ print-answers-spec =
     μ-loop
     loop-holds
     print-answer-requires
-    returns
+    enum-told
     add-ordinal
     loop-less
     loop-again
-    returns-2)
+    enum-told-2
+    returns
+    enum-told-3
+    returns-2
+    returns-3)

@@ -9,14 +9,17 @@ enum-known-reply c = search (found-inside, needs)
 print-record-requires : tie.Need-print-record-requires
 print-record-requires c κs = search (found-inside, needs)
 
+returns : tie.Need-returns
+returns c = search (found-inside, needs)
+
 enum-told : tie.Need-enum-told
 enum-told c = search (found-inside, needs)
 
-slice-aggregate-write-all : tie.Need-slice-aggregate-write-all
-slice-aggregate-write-all c = search (found-inside, needs)
+print-none-requires : tie.Need-print-none-requires
+print-none-requires c κs = search (found-inside, needs)
 
-write-all-requires : tie.Need-write-all-requires
-write-all-requires c κs = search (found-inside, needs)
+last-requires : tie.Need-last-requires
+last-requires c κs = search (found-inside, needs)
 
 enum-told-2 : tie.Need-enum-told-2
 enum-told-2 c = search (found-inside, needs)
@@ -27,8 +30,8 @@ reply-number-requires c κs = search (found-inside, needs)
 print-refusal-requires : tie.Need-print-refusal-requires
 print-refusal-requires c κs = search (found-inside, needs)
 
-returns : tie.Need-returns
-returns c = search (found-inside, needs)
+last-requires-2 : tie.Need-last-requires-2
+last-requires-2 c κs = search (found-inside, needs)
 
 returns-2 : tie.Need-returns-2
 returns-2 c = search (found-inside, needs)
@@ -45,13 +48,14 @@ print-reply-spec =
     (tie.spec
     enum-known-reply
     print-record-requires
+    returns
     enum-told
-    slice-aggregate-write-all
-    write-all-requires
+    print-none-requires
+    last-requires
     enum-told-2
     reply-number-requires
     print-refusal-requires
-    returns
+    last-requires-2
     returns-2
     returns-3
     returns-4)
