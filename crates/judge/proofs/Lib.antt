@@ -1,5 +1,5 @@
 pub mod SeenRecords
 pub mod Meanings
 pub mod ByKeys
-pub mod Known
+pub mod KnownRecords
 pub mod Shapes

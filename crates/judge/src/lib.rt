@@ -1,12 +1,14 @@
-// What the key and the data of one record say. The functions that judge have one caller each, so that a stream is judged without calls.
+// What the key and the data of one record say. Each function that judges has one caller or is small, so that a stream is judged without calls.
 ghost use mathlib.Core.Path.{_≡_};
-ghost use mathlib.Core.Bool.{true, _&&_};
+ghost use mathlib.Core.Bool.{_&&_};
 ghost use Prim.Native.Nat.{_≤_, _+_};
 ghost use lib.ListN.{length, drop, getD};
 ghost use lib.Dec.{leb, eqb};
-ghost use Rattle.rules.specs.Lists.{isSome};
 ghost use Rattle.rules.specs.Reading.{byFlag, resourceIn, locationIn, recordIn};
-ghost use Rattle.judge.specs.Seen.{wildcardFlag, loFlag, flagIn, sharedIn, seenWith, seenRecord, fixedIn, isWhole, seenIn};
+ghost use Rattle.judge.specs.Seen.{wildcardFlag, loFlag, flagIn, sharedIn, seenWith, seenRecord, fixedIn};
+
+pub mod known;
+
 use keys::is_good_key;
 use keys::is_lo;
 use rules::quantities::Lo;
@@ -197,44 +199,4 @@ pub fn record_in(key: &[u8], rdata: &[u8]) -> Seen
         return location_in(key, rdata);
     }
     resource_in(key, rdata)
-}
-
-// By the flag of data that are known to be a record's.
-fn known_flag(rdata: &[u8]) -> Flag
-    requires { ⌜ 3 ≤ length (now rdata) ⌝ }
-    requires { ⌜ isWhole (flagIn (now rdata)) ≡ true ⌝ }
-    ensures { λ r. ⌜ r ≡ flagIn (now (rdata .entry)) ⌝ }
-{
-    match rdata[2] {
-        61 => Flag::Whole(Lo::Every, 3),
-        42 => Flag::Whole(Lo::Every, 3),
-        _ => Flag::Whole(Lo::Code(rdata[3], rdata[4]), 5),
-    }
-}
-
-// The record of data that are known to be those of a record with an owner.
-fn known_resource(rdata: &[u8]) -> Seen
-    requires { ⌜ 3 ≤ length (now rdata) ⌝ }
-    requires { ⌜ isWhole (flagIn (now rdata)) ≡ true ⌝ }
-    ensures { λ r. ⌜ r ≡ seenIn (now (rdata .entry)) ⌝ }
-{
-    let high = wide(rdata[0]);
-    let low = wide(rdata[1]);
-    let wild = is_wildcard(rdata[2]);
-    match known_flag(rdata) {
-        Flag::Whole(lo, at) => fields_in(rdata, lo, at, wild, (high * 256 + low) as u16),
-        Flag::Broken => Seen::Broken,
-    }
-}
-
-// The record of a key and its data that are known to be one: the key, the flag and lo are not judged again.
-pub fn known_in(key: &[u8], rdata: &[u8]) -> Seen
-    requires { ⌜ isSome (recordIn (now key) (now rdata)) ≡ true ⌝ }
-    ensures { λ r. ⌜ seenRecord (now (key .entry)) (now (rdata .entry)) r ≡ recordIn (now (key .entry)) (now (rdata .entry)) ⌝ }
-    ensures { λ r. ⌜ fixedIn r ≤ length (now (rdata .entry)) ⌝ }
-{
-    if is_location(key) {
-        return location_in(key, rdata);
-    }
-    known_resource(rdata)
 }

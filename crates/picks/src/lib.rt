@@ -9,7 +9,7 @@ ghost use Rattle.rules.specs.Records.{loBytes};
 ghost use Rattle.rules.specs.Reading.{recordIn, decode};
 ghost use Rattle.picks.specs.Picks.{wantedIn, replyIn, pickedFrom};
 use judge::Seen;
-use judge::known_in;
+use judge::known::known_in;
 use ranks::rank_in;
 use rules::quantities::Lo;
 use rules::quantities::Moment;

@@ -9,7 +9,7 @@ ghost use Rattle.rules.specs.Questions.{ancestors};
 ghost use Rattle.rules.specs.Reading.{recordIn};
 ghost use Rattle.ranks.specs.Ranks.{among, endsIn, keyRank, rankIn};
 use judge::Seen;
-use judge::known_in;
+use judge::known::known_in;
 use letters::letters::lowered;
 use rules::quantities::Lo;
 use rules::quantities::Moment;

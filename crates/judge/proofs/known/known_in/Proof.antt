@@ -1,6 +1,6 @@
-use Rattle.judge.proofs.Known.{known·laws}
-use Rattle.judge.proofs.known_in.Statement.{statement}
-use Rattle.judge.proofs.known_in.Tie as tie
+use Rattle.judge.proofs.KnownRecords.{known·laws}
+use Rattle.judge.proofs.known.known_in.Statement.{statement}
+use Rattle.judge.proofs.known.known_in.Tie as tie
 
 is-location-requires : tie.Need-is-location-requires
 is-location-requires c κs = search known·laws

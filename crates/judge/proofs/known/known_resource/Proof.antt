@@ -1,6 +1,6 @@
-use Rattle.judge.proofs.Known.{known-data·laws}
-use Rattle.judge.proofs.known_resource.Statement.{statement}
-use Rattle.judge.proofs.known_resource.Tie as tie
+use Rattle.judge.proofs.KnownRecords.{known-data·laws}
+use Rattle.judge.proofs.known.known_resource.Statement.{statement}
+use Rattle.judge.proofs.known.known_resource.Tie as tie
 
 shared-slice-read-wide : tie.Need-shared-slice-read-wide
 shared-slice-read-wide c = search known-data·laws

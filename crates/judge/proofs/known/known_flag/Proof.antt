@@ -1,6 +1,6 @@
-use Rattle.judge.proofs.Known.{known-flag·laws}
-use Rattle.judge.proofs.known_flag.Statement.{statement}
-use Rattle.judge.proofs.known_flag.Tie as tie
+use Rattle.judge.proofs.KnownRecords.{known-flag·laws}
+use Rattle.judge.proofs.known.known_flag.Statement.{statement}
+use Rattle.judge.proofs.known.known_flag.Tie as tie
 
 shared-slice-read-match : tie.Need-shared-slice-read-match
 shared-slice-read-match c = search known-flag·laws
