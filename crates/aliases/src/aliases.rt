@@ -10,7 +10,7 @@ ghost use Rattle.rules.specs.Bytes.{bytesOf};
 ghost use Rattle.rules.specs.declared.kinds.Kind.{Kind};
 ghost use Rattle.buffer.specs.Put.{IsPut};
 ghost use Rattle.values.specs.Ready.{Ready};
-ghost use Rattle.aliases.specs.Alone.{saysAddress, IsAddressLine, Holding, aliasRecords, pointerRecord, backRecords};
+ghost use Rattle.aliases.specs.Alone.{saysAddress, IsAddressLine, Holding, aliasRecords, pointerRecord};
 use a_aaaa::a_aaaa::put_address;
 use addresses::addresses::AddressRead;
 use hosts::hosts::address_of;

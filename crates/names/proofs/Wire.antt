@@ -1,7 +1,7 @@
 -- The laws of a name put on the wire. The labels that are closed are the buffer's first `start` bytes; the label being read is what stands
 -- behind the place of its length, `start`.
 use mathlib.Core.Path.{_≡_, refl, ap, _∙_, sym}
-use mathlib.Core.Bool.{Bool, true, false}
+use mathlib.Core.Bool.{Bool, true, false, true≢false}
 use mathlib.Core.Logic.{_⊎_, inl, inr, ⊎-elim}
 use mathlib.Core.List.{List, [], _∷_, _++_, append-nil}
 use Prim.Native.Nat.{ℕ, suc, _+_, _-_, _<_, _≤_}
@@ -20,19 +20,16 @@ use Rattle.wire.proofs.Steps.{left-at, take-put}
 use Rattle.names.specs.Views.{isNamed}
 use Rattle.buffer.proofs.Front.{put-by, on}
 
-false-true : {A : Type 0} → false ≡ true → A
-false-true e = absurd (let z : _≡_ {A = ℕ} 0 1 = cc in omega arith)
-
 -- where a test picks between a fault and a reading, a name is the reading
 picked : (t : Bool) (x y : NameRead) → isNamed x ≡ false → isNamed (pick t x y) ≡ true → (t ≡ false) × (pick t x y ≡ y)
 unfolding pick
-picked true x y f n = false-true (sym f ∙ n)
+picked true x y f n = absurd (true≢false (sym n ∙ f))
 picked false x y f n = (refl, refl)
 
 picked-first : (t : Bool) (x y : NameRead) → isNamed y ≡ false → isNamed (pick t x y) ≡ true → pick t x y ≡ x
 unfolding pick
 picked-first true x y f n = refl
-picked-first false x y f n = false-true (sym f ∙ n)
+picked-first false x y f n = absurd (true≢false (sym n ∙ f))
 
 module _ (closed begun : List ℕ) (place b : ℕ) (bs : List ℕ) (n : isNamed (nameFrom closed begun place (b ∷ bs)) ≡ true) where
   dot-step : b ≡ 46 → (eqb (length begun) 0 ≡ false) × (nameFrom closed begun place (b ∷ bs) ≡ nameFrom (closed ++ label begun) [] (suc place) bs)
