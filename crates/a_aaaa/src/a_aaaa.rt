@@ -9,7 +9,6 @@ ghost use Rattle.rules.specs.Bytes.{bytesOf};
 ghost use Rattle.buffer.specs.Put.{IsPut};
 ghost use Rattle.addresses.specs.HeldAddress.{heldAddress, IsHeld};
 use addresses::addresses::AddressRead;
-use addresses::addresses::address;
 use records::resources::put_resource;
 use rules::quantities::Shared;
 

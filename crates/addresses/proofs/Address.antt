@@ -1,6 +1,6 @@
 -- The laws of an address and a prefix, from what their numbers and groups tell.
 use mathlib.Core.Path.{_≡_, refl, ap, _∙_, sym}
-use mathlib.Core.Bool.{Bool, true, false, _&&_, and-true, and-false}
+use mathlib.Core.Bool.{Bool, true, false, _&&_, true≢false, and-true, and-false}
 use mathlib.Core.List.{List, [], _∷_, map}
 use mathlib.Core.Option.{Option, none, some}
 use Prim.Native.Nat.{ℕ, _*_, _≤_}
@@ -13,6 +13,7 @@ use lib.Seq.{take-all}
 use Rattle.rules.specs.Lists.{pick, has, all, joinAll, splitOn, be}
 use Rattle.rules.specs.Fields.{octet, octetByte, addressIf, addressOf, prefixOf}
 use Rattle.octets.specs.Octets.{octetsRead, IsOctets}
+use Rattle.octets.proofs.Taken.{good-by, bad-by}
 use Rattle.groups.specs.Groups.{groupsBytes, groupsRead, IsGroups}
 use Rattle.addresses.specs.Addresses.{dottedAddress, groupedAddress, addressRead, IsAddress, prefixRead, IsPrefix}
 use Rattle.addresses.specs.declared.addresses.AddressRead.{AddressRead}
@@ -23,20 +24,9 @@ no-address : (x : Option (List ℕ)) (bytes : List ℕ) → none ≡ x → lengt
 unfolding addressRead pick
 no-address x bytes e l = record { says = e; sizes = λ a b. absurd (a refl); few = omega arith; long = l }
 
--- what a reading by pieces tells where it's good, and where it isn't
-some-by : (u : Bool) (x y : List ℕ) → some y ≡ pick u (some x) none → (u ≡ true) × (x ≡ y)
-unfolding pick
-some-by true x y e = (refl, cc)
-some-by false x y e = absurd (let z : _≡_ {A = ℕ} 0 1 = cc in omega arith)
-
-none-by : (u : Bool) (x : List ℕ) → none ≡ pick u (some x) none → u ≡ false
-unfolding pick
-none-by true x e = absurd (let z : _≡_ {A = ℕ} 0 1 = cc in omega arith)
-none-by false x e = refl
-
 and-second : (u w : Bool) → (u && w) ≡ true → w ≡ true
 and-second true w e = e
-and-second false w e = absurd (let z : _≡_ {A = ℕ} 0 1 = cc in omega arith)
+and-second false w e = absurd (true≢false (sym e))
 
 few-not : (n : ℕ) (w : Bool) → (leb n 4 && w) ≡ false → (eqb n 4 && w) ≡ false
 few-not n true e = and-true (eqb n 4) ∙ ne-eqb n 4 (λ q. let l = leb-false n 4 (sym (and-true (leb n 4)) ∙ e) in omega arith)
@@ -57,36 +47,38 @@ four-front (p ∷ q ∷ r ∷ s ∷ []) (w ∷ x ∷ []) h k = absurd (omega ari
 four-front (p ∷ q ∷ r ∷ s ∷ []) (w ∷ x ∷ y ∷ []) h k = absurd (omega arith)
 
 module _ (s : List ℕ) (o : OctetsRead) (e : IsOctets s o) where
-  module _ (g : o .good ≡ true) where
-    good-is : (all octet (splitOn 46 s) ≡ true) × (joinAll (map octetByte (splitOn 46 s)) ≡ take (o .count) (o .bytes))
-    unfolding octetsRead addressIf pick
-    good-is =
-        let w = some-by (leb (length (splitOn 46 s)) 4 && all octet (splitOn 46 s)) (joinAll (map octetByte (splitOn 46 s))) (take (o .count) (o .bytes)) (rw g at (e .says)) in
-        (and-second (leb (length (splitOn 46 s)) 4) (all octet (splitOn 46 s)) (w .0), w .1)
+  good-is : o .good ≡ true → (all octet (splitOn 46 s) ≡ true) × (joinAll (map octetByte (splitOn 46 s)) ≡ take (o .count) (o .bytes))
+  unfolding octetsRead addressIf pick
+  good-is g =
+      let w = good-by (leb (length (splitOn 46 s)) 4 && all octet (splitOn 46 s)) (joinAll (map octetByte (splitOn 46 s))) (take (o .count) (o .bytes)) (rw g at (e .says)) in
+      (and-second (leb (length (splitOn 46 s)) 4) (all octet (splitOn 46 s)) (w .0), w .1)
 
-    pub four : (b : List ℕ) → o .count ≡ 4 → length b ≡ 16
-        → IsAddress (dottedAddress s) (record { bytes = set (set (set (set b 0 (getD (o .bytes) 0 0)) 1 (getD (o .bytes) 1 0)) 2 (getD (o .bytes) 2 0)) 3 (getD (o .bytes) 3 0); len = 4 })
-    unfolding addressRead dottedAddress addressIf pick
-    four b c l =
-        let n : length (splitOn 46 s) ≡ 4 = sym (e .pieces g) ∙ c in
-        record {
-          says =
-              rw (four-front (o .bytes) b (e .long) (omega arith), n, good-is .0, good-is .1)
-              (ap some (sym (take-all (o .count) (o .bytes) (omega (arith, e .long)))));
-          sizes = λ x y. absurd (y refl);
-          few = omega arith;
-          long = simp length-set l;
-        }
+  counted : (g : Bool) → o .good ≡ g → o .count ≡ 4 → o .good ≡ true
+  counted true q c = q
+  counted false q c = absurd (omega (arith, e .none q))
 
-    pub not-four : (b : List ℕ) → (o .count ≡ 4 → ⊥) → length b ≡ 16 → IsAddress (dottedAddress s) (record { bytes = b; len = 0 })
-    unfolding dottedAddress addressIf pick
-    not-four b c l = no-address (dottedAddress s) b (rw (ne-eqb (length (splitOn 46 s)) 4 (λ q. c (e .pieces g ∙ q)))) l
+  pub four : (b : List ℕ) → o .count ≡ 4 → length b ≡ 16
+      → IsAddress (dottedAddress s) (record { bytes = set (set (set (set b 0 (getD (o .bytes) 0 0)) 1 (getD (o .bytes) 1 0)) 2 (getD (o .bytes) 2 0)) 3 (getD (o .bytes) 3 0); len = 4 })
+  unfolding addressRead dottedAddress addressIf pick
+  four b c l =
+      let g = counted (o .good) refl c in
+      let n : length (splitOn 46 s) ≡ 4 = sym (e .pieces g) ∙ c in
+      record {
+        says = rw (four-front (o .bytes) b (e .long) (omega arith), n, good-is g .0, good-is g .1) (ap some (sym (take-all (o .count) (o .bytes) (omega (arith, e .long)))));
+        sizes = λ x y. absurd (y refl);
+        few = omega arith;
+        long = simp length-set l;
+      }
 
-  pub bad-octets : (b : List ℕ) → o .good ≡ false → length b ≡ 16 → IsAddress (dottedAddress s) (record { bytes = b; len = 0 })
+  not-four-by : (g : Bool) → o .good ≡ g → (o .count ≡ 4 → ⊥) → none ≡ dottedAddress s
   unfolding octetsRead dottedAddress addressIf pick
-  bad-octets b g l =
-      let w = none-by (leb (length (splitOn 46 s)) 4 && all octet (splitOn 46 s)) (joinAll (map octetByte (splitOn 46 s))) (rw g at (e .says)) in
-      no-address (dottedAddress s) b (rw (few-not (length (splitOn 46 s)) (all octet (splitOn 46 s)) w)) l
+  not-four-by true g c = rw (ne-eqb (length (splitOn 46 s)) 4 (λ q. c (e .pieces g ∙ q)))
+  not-four-by false g c =
+      let w = bad-by (leb (length (splitOn 46 s)) 4 && all octet (splitOn 46 s)) (joinAll (map octetByte (splitOn 46 s))) (rw g at (e .says)) in
+      rw (few-not (length (splitOn 46 s)) (all octet (splitOn 46 s)) w)
+
+  pub not-four : (b : List ℕ) → (o .count ≡ 4 → ⊥) → length b ≡ 16 → IsAddress (dottedAddress s) (record { bytes = b; len = 0 })
+  not-four b c l = no-address (dottedAddress s) b (not-four-by (o .good) refl c) l
 
   pub some-prefix : (length s ≡ 0 → ⊥) → IsPrefix (prefixOf s) (record { bytes = o .bytes; len = o .count; good = o .good })
   unfolding octetsRead prefixRead prefixOf
@@ -96,7 +88,7 @@ module _ (s : List ℕ) (o : OctetsRead) (e : IsOctets s o) where
       full [] h = absurd (h refl)
       full (b ∷ t) h = refl
 
-pub ruleset dotted·laws = (four, not-four, bad-octets, needs)
+pub ruleset dotted·laws = (four, not-four, needs)
 
 pub no-prefix : (s b : List ℕ) → length s ≡ 0 → length b ≡ 4 → IsPrefix (prefixOf s) (record { bytes = b; len = 0; good = true })
 unfolding prefixRead prefixOf pick

@@ -25,18 +25,14 @@ fn dotted_address(text: &[u8]) -> AddressRead
 {
     let mut bytes = [0u8; 16];
     let read = octets(text);
-    let good = read.good;
     let count = read.count;
     let first = read.bytes;
-    if good {
-        if count == 4 {
-            bytes[0] = first[0];
-            bytes[1] = first[1];
-            bytes[2] = first[2];
-            bytes[3] = first[3];
-            return AddressRead { bytes, len: 4 };
-        }
-        return AddressRead { bytes, len: 0 };
+    if count == 4 {
+        bytes[0] = first[0];
+        bytes[1] = first[1];
+        bytes[2] = first[2];
+        bytes[3] = first[3];
+        return AddressRead { bytes, len: 4 };
     }
     AddressRead { bytes, len: 0 }
 }

@@ -1,6 +1,5 @@
 -- The laws of lines that say a host's address.
 use mathlib.Core.Path.{_≡_, refl, ap, _∙_, sym}
-use mathlib.Core.Bool.{true, true≢false}
 use mathlib.Core.List.{List, [], _∷_, _++_, append-assoc}
 use Prim.Native.Nat.{ℕ, _+_, _≤_}
 use native.Mathlib.Omega.{arith}
@@ -20,34 +19,26 @@ use Rattle.heads.specs.Head.{headSize}
 use Rattle.addresses.specs.declared.addresses.AddressRead.{AddressRead}
 use Rattle.names.specs.Held.{heldName, IsName}
 use Rattle.addresses.specs.HeldAddress.{heldAddress, IsHeld}
-use Rattle.aliases.specs.Alone.{saysAddress, IsAddressLine, Holding, aliasRecords, pointerRecord, backRecords}
+use Rattle.aliases.specs.Alone.{IsAddressLine, Holding, aliasRecords, pointerRecord, backRecords}
 use Rattle.aliases.specs.declared.aliases.AddressLine.{AddressLine}
 use Rattle.names.specs.declared.names.Name.{Name}
 use Rattle.names.proofs.Holding.{held-short, held-long}
 use Rattle.values.proofs.Readiness.{ready-fields, owner-named}
 use Rattle.records.proofs.Sequence.{only, first-fits, room-of, put-of}
 
-pub address-count : (kind : Kind) → saysAddress kind ≡ true → 3 ≤ fieldCount kind
-unfolding meanings common fieldCount
-address-count Kind.Location h = absurd (true≢false (sym h))
-address-count Kind.Zone h = omega arith
-address-count Kind.Delegation h = omega arith
-address-count Kind.Host h = omega arith
-address-count Kind.Alias h = omega arith
-address-count Kind.Mail h = omega arith
-address-count Kind.Service h = omega arith
-address-count Kind.Text h = omega arith
-address-count Kind.Pointer h = omega arith
-address-count Kind.Canonical h = omega arith
-address-count Kind.Authority h = omega arith
-address-count Kind.Generic h = omega arith
-address-count Kind.Unknown h = absurd (true≢false (sym h))
+pub alias-fields : 3 ≤ fieldCount Kind.Alias
+unfolding fieldCount meanings common
+alias-fields = omega arith
+
+pub host-fields : 3 ≤ fieldCount Kind.Host
+unfolding fieldCount meanings common
+host-fields = omega arith
 
 pub line-read : (kind : Kind) (s : List ℕ) (shared : Shared) (owner : Name) (address : AddressRead) → shared ≡ sharedOf kind (splitOn 58 s) → IsName (wireOf (fieldAt (splitOn 58 s) 0)) owner
     → (heldAddress address ≡ addressIn (fieldAt (splitOn 58 s) 1)) × IsHeld address → IsAddressLine kind s (record { shared = shared; owner = owner; address = address })
 line-read kind s shared owner address a b c = record { shared = a; owner = b; address = c .0; held = c .1 }
 
-pub ruleset address-line·laws = (needs, ready-fields, owner-named, address-count, line-read)
+pub ruleset address-line·laws = (needs, ready-fields, owner-named, line-read)
 
 module _ (kind : Kind) (s : List ℕ) (l : AddressLine) (p : IsAddressLine kind s l) where
   pub holding : Holding l
@@ -67,7 +58,7 @@ host-is s l p = same-read Kind.Host s l p (λ shared owner address. addressRecor
 
 pub ruleset alias·laws = (needs, front-count)
 
-pub ruleset alias-line·laws = (needs, holding, room-of, put-of, alias-is)
+pub ruleset alias-line·laws = (needs, alias-fields, holding, room-of, put-of, alias-is)
 
 -- ---- the PTR
 
@@ -110,4 +101,4 @@ module _ (rs ss : List Record) (d : List ℕ) (room : length (bytesOf (rs ++ ss)
     pub both-put : (f : List ℕ) (k : ℕ) → IsPut (bytesOf ss) (lentAt a e) f k → IsPut (bytesOf (rs ++ ss)) d (backAt a e f) (a + k)
     both-put f k q = rw (bytes-append rs ss) (then (bytesOf rs) d e a p (bytesOf ss) f k q)
 
-pub ruleset host-line·laws = (needs, holding, room-of, put-of, host-is, alias-room, back-starts, back-fits, both-put)
+pub ruleset host-line·laws = (needs, host-fields, holding, room-of, put-of, host-is, alias-room, back-starts, back-fits, both-put)

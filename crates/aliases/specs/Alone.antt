@@ -1,6 +1,5 @@
 -- The lines that say a host's address, as they are read.
 use mathlib.Core.Path.{_≡_}
-use mathlib.Core.Bool.{Bool, true, false}
 use mathlib.Core.List.{List, [], _∷_, _++_}
 use Prim.Native.Nat.{ℕ, _≤_}
 use lib.ListN.{length}
@@ -12,22 +11,6 @@ use Rattle.rules.specs.declared.kinds.Kind.{Kind}
 use Rattle.names.specs.Held.{heldName, IsName}
 use Rattle.addresses.specs.HeldAddress.{heldAddress, IsHeld}
 use Rattle.aliases.specs.declared.aliases.AddressLine.{AddressLine}
-
--- the two kinds
-abbrev pub saysAddress : Kind → Bool
-saysAddress Kind.Location = false
-saysAddress Kind.Zone = false
-saysAddress Kind.Delegation = false
-saysAddress Kind.Host = true
-saysAddress Kind.Alias = true
-saysAddress Kind.Mail = false
-saysAddress Kind.Service = false
-saysAddress Kind.Text = false
-saysAddress Kind.Pointer = false
-saysAddress Kind.Canonical = false
-saysAddress Kind.Authority = false
-saysAddress Kind.Generic = false
-saysAddress Kind.Unknown = false
 
 pub record IsAddressLine (kind : Kind) (s : List ℕ) (l : AddressLine) : Type 0 where
   pub shared : l .shared ≡ sharedOf kind (splitOn 58 s)

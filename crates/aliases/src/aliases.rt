@@ -1,16 +1,15 @@
 // The lines that say a host's address: `+`, and `=` with its PTR.
-ghost use mathlib.Core.Path.{_≡_};
-ghost use mathlib.Core.Bool.{true};
 ghost use mathlib.Core.List.{[], _∷_};
 ghost use Prim.Native.Nat.{_≤_};
 ghost use lib.ListN.{length};
 ghost use Rattle.rules.specs.Lists.{splitOn};
+ghost use Rattle.rules.specs.Kinds.{fieldCount};
 ghost use Rattle.rules.specs.Records.{recordsOf};
 ghost use Rattle.rules.specs.Bytes.{bytesOf};
 ghost use Rattle.rules.specs.declared.kinds.Kind.{Kind};
 ghost use Rattle.buffer.specs.Put.{IsPut};
 ghost use Rattle.values.specs.Ready.{Ready};
-ghost use Rattle.aliases.specs.Alone.{saysAddress, IsAddressLine, Holding, aliasRecords, pointerRecord, backRecords};
+ghost use Rattle.aliases.specs.Alone.{IsAddressLine, Holding, aliasRecords, pointerRecord};
 use a_aaaa::a_aaaa::put_address;
 use addresses::addresses::AddressRead;
 use hosts::hosts::address_of;
@@ -32,7 +31,7 @@ pub struct AddressLine {
 
 // What is read of a `+` or `=` line.
 fn address_line(rest: &[u8], spans: [Span; 11], kind: Kind) -> AddressLine
-    requires { ⌜ Ready kind (now rest) spans × (saysAddress kind ≡ true) ⌝ }
+    requires { ⌜ Ready kind (now rest) spans × (3 ≤ fieldCount kind) ⌝ }
     ensures { λ r. ⌜ IsAddressLine kind (now (rest .entry)) r ⌝ }
 {
     let shared = shared_of(rest, spans, kind);

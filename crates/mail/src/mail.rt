@@ -1,5 +1,4 @@
 // The line that names a mail exchanger.
-ghost use mathlib.Core.List.{_++_};
 ghost use Prim.Native.Nat.{_≤_};
 ghost use lib.ListN.{length};
 ghost use Rattle.rules.specs.Lists.{splitOn, be};

@@ -1,11 +1,11 @@
 // A name's text: labels joined by dots.
 ghost use mathlib.Core.Path.{_≡_};
 ghost use mathlib.Core.Bool.{true};
-ghost use mathlib.Core.List.{[], _∷_, _++_};
+ghost use mathlib.Core.List.{[], _∷_};
 ghost use Prim.Native.Nat.{_≤_, _+_};
 ghost use lib.ListN.{length};
 ghost use Rattle.rules.specs.Lists.{sameBytes};
-ghost use Rattle.rules.specs.Names.{label, nameOf, wireOf};
+ghost use Rattle.rules.specs.Names.{nameOf, wireOf};
 ghost use Rattle.buffer.specs.Put.{IsPut};
 ghost use Rattle.names.specs.Views.{judgedOf, isNamed};
 ghost use Rattle.names.specs.NameCounts.{byteKind, judgedSize};

@@ -1,6 +1,6 @@
 -- The laws of numbers joined by dots.
-use mathlib.Core.Path.{_≡_, refl, ap, _∙_, sym}
-use mathlib.Core.Bool.{true, false}
+use mathlib.Core.Path.{_≡_, refl, ap, sym}
+use mathlib.Core.Bool.{true, false, true≢false}
 use mathlib.Core.List.{List, [], _∷_, map}
 use mathlib.Core.Option.{none}
 use Prim.Native.Nat.{ℕ, _<_, _≤_}
@@ -38,7 +38,8 @@ unfolding octetsRead pick
 refused s bytes l e =
     record {
       says = sym e;
-      pieces = λ q. absurd (let z : _≡_ {A = ℕ} 0 1 = cc in omega arith);
+      pieces = λ q. absurd (true≢false (sym q));
+      none = λ q. refl;
       few = omega arith;
       long = l;
     }
@@ -65,6 +66,7 @@ module _ (s bytes : List ℕ) (count start : ℕ) (e : Going octet octetByte one
               ones (take count bytes),
             );
         pieces = λ q. sym m;
+        none = λ q. absurd (true≢false q);
         few = k;
         long = l;
       }

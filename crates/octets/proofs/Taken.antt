@@ -54,17 +54,17 @@ module _ {good : List ℕ → Bool} {f : List ℕ → List ℕ} {pieces left : L
     pub all-many : length pieces ≡ count
     all-many = e .many ∙ rw (q, add-zero count)
 
--- what a piece's reading tells of its test and its value
 pub not-good : (good : List ℕ → Bool) (value : List ℕ → ℕ) (most : ℕ) (t : List ℕ) → good t ≡ false → IsPiece good value most t NumberRead.Bad
 unfolding pick
 not-good good value most t e = record { says = rw e; fits = λ v q. absurd (let z : _≡_ {A = ℕ} 0 1 = cc in omega arith) }
 
-good-by : (u : Bool) (n v : ℕ) → some v ≡ pick u (some n) none → (u ≡ true) × (n ≡ v)
+-- what a reading tells of its test and its value
+pub good-by : {A : Type 0} (u : Bool) (n v : A) → some v ≡ pick u (some n) none → (u ≡ true) × (n ≡ v)
 unfolding pick
 good-by true n v e = (refl, cc)
 good-by false n v e = absurd (let z : _≡_ {A = ℕ} 0 1 = cc in omega arith)
 
-bad-by : (u : Bool) (n : ℕ) → none ≡ pick u (some n) none → u ≡ false
+pub bad-by : {A : Type 0} (u : Bool) (n : A) → none ≡ pick u (some n) none → u ≡ false
 unfolding pick
 bad-by true n e = absurd (let z : _≡_ {A = ℕ} 0 1 = cc in omega arith)
 bad-by false n e = refl

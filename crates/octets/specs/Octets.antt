@@ -2,7 +2,7 @@
 use Prim.Native.Nat.{ℕ, _≤_}
 use mathlib.Core.Option.{Option, none, some}
 use mathlib.Core.Path.{_≡_}
-use mathlib.Core.Bool.{Bool, not, _||_, true}
+use mathlib.Core.Bool.{Bool, not, _||_, true, false}
 use mathlib.Core.List.{List}
 use lib.Dec.{eqb, leb}
 use lib.ListN.{length, take}
@@ -28,5 +28,6 @@ octetsRead r = pick (r .good) (some (take (r .count) (r .bytes))) none
 pub record IsOctets (text : List ℕ) (r : OctetsRead) : Type 0 where
   pub says : octetsRead r ≡ addressIf (leb (length (splitOn 46 text)) 4) octet octetByte (splitOn 46 text)
   pub pieces : r .good ≡ true → r .count ≡ length (splitOn 46 text)
+  pub none : r .good ≡ false → r .count ≡ 0
   pub few : r .count ≤ 4
   pub long : length (r .bytes) ≡ 4

@@ -1,19 +1,13 @@
 // The lines whose data are a name: pointer and canonical name.
-ghost use mathlib.Core.Path.{_≡_};
-ghost use mathlib.Core.Bool.{true};
-ghost use mathlib.Core.List.{[]};
 ghost use Prim.Native.Nat.{_≤_};
 ghost use lib.ListN.{length};
 ghost use Rattle.rules.specs.Lists.{splitOn};
-ghost use Rattle.rules.specs.Kinds.{fieldAt, fieldCount};
-ghost use Rattle.rules.specs.Names.{nameOf, wireOf};
-ghost use Rattle.rules.specs.Records.{recordsOf, resourceOf, sharedOf};
-ghost use Rattle.rules.specs.Bytes.{bytesOf, encode};
+ghost use Rattle.rules.specs.Records.{recordsOf};
+ghost use Rattle.rules.specs.Bytes.{bytesOf};
 ghost use Rattle.rules.specs.declared.kinds.Kind.{Kind};
 ghost use Rattle.buffer.specs.Put.{IsPut};
-ghost use Rattle.names.specs.Views.{isNamed};
-ghost use Rattle.splits.specs.Splits.{FieldsOf};
 ghost use Rattle.values.specs.Ready.{Ready};
+ghost use Rattle.pointers.specs.Targets.{Points};
 use hosts::hosts::name_at;
 use records::resources::put_resource;
 use rules::kinds::Kind;
@@ -22,8 +16,8 @@ use values::values::shared_of;
 
 // The record whose data are the name of field 1.
 fn put_target(out: &mut [u8], rest: &[u8], spans: [Span; 11], kind: Kind, rtype: u16) -> usize
-    requires { ⌜ FieldsOf (now rest) spans × (3 ≤ fieldCount kind) × (isNamed (nameOf (fieldAt (splitOn 58 (now rest)) 0)) ≡ true) × (isNamed (nameOf (fieldAt (splitOn 58 (now rest)) 1)) ≡ true) × (length (encode (resourceOf (sharedOf kind (splitOn 58 (now rest))) (wireOf (fieldAt (splitOn 58 (now rest)) 0)) rtype (wireOf (fieldAt (splitOn 58 (now rest)) 1)))) ≤ length (now out)) ⌝ }
-    ensures { λ r. ⌜ IsPut (encode (resourceOf (sharedOf kind (splitOn 58 (now (rest .entry)))) (wireOf (fieldAt (splitOn 58 (now (rest .entry))) 0)) rtype (wireOf (fieldAt (splitOn 58 (now (rest .entry))) 1)))) (now (out .entry)) (now (out .exit)) r ⌝ }
+    requires { ⌜ Ready kind (now rest) spans × Points kind (now rest) rtype × (length (bytesOf (recordsOf 0 kind (splitOn 58 (now rest)))) ≤ length (now out)) ⌝ }
+    ensures { λ r. ⌜ IsPut (bytesOf (recordsOf 0 kind (splitOn 58 (now (rest .entry))))) (now (out .entry)) (now (out .exit)) r ⌝ }
 {
     let shared = shared_of(rest, spans, kind);
     let owner = name_at(rest, spans, 0);

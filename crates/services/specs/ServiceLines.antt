@@ -1,6 +1,5 @@
 -- The records of a service.
-use mathlib.Core.Path.{_≡_}
-use mathlib.Core.List.{List, [], _∷_, _++_}
+use mathlib.Core.List.{List, _∷_}
 use Rattle.rules.specs.Records.{Record, resourceOf, srvData, addressRecords}
 use Rattle.rules.specs.declared.quantities.Port.{Port}
 use Rattle.rules.specs.declared.quantities.Priority.{Priority}

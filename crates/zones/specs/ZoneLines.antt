@@ -1,6 +1,5 @@
 -- The records of a zone.
-use mathlib.Core.Path.{_≡_}
-use mathlib.Core.List.{List, [], _∷_, _++_}
+use mathlib.Core.List.{List, [], _∷_}
 use Prim.Native.Nat.{ℕ}
 use Rattle.rules.specs.Records.{Record, resourceOf, contactOf, soaData, soaShared}
 use Rattle.names.specs.Held.{heldName}

@@ -1,9 +1,9 @@
 // The lines that name a name server: zones and delegations.
 ghost use mathlib.Core.Path.{_≡_};
-ghost use mathlib.Core.List.{[], _∷_};
+ghost use mathlib.Core.List.{[]};
 ghost use Prim.Native.Nat.{_≤_};
 ghost use lib.ListN.{length};
-ghost use Rattle.rules.specs.Lists.{splitOn, be};
+ghost use Rattle.rules.specs.Lists.{splitOn};
 ghost use Rattle.rules.specs.Records.{contactOf, soaShared, recordsOf};
 ghost use Rattle.rules.specs.Bytes.{encode, bytesOf};
 ghost use Rattle.rules.specs.declared.kinds.Kind.{Kind};

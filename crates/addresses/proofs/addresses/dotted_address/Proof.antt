@@ -35,9 +35,6 @@ returns c = search dotted·laws
 returns-2 : tie.Need-returns-2
 returns-2 c = search dotted·laws
 
-returns-3 : tie.Need-returns-3
-returns-3 c = search dotted·laws
-
 pub dotted-address-spec : {M : Type 1} → statement M
 dotted-address-spec =
     tie.close
@@ -52,5 +49,4 @@ dotted-address-spec =
     array-read-bytes-4
     array-write-bytes-4
     returns
-    returns-2
-    returns-3)
+    returns-2)

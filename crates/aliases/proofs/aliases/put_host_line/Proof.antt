@@ -1,5 +1,4 @@
 use Rattle.aliases.proofs.AddressLines.{host-line·laws}
-use borrow.Author.Needs.{needs}
 use Rattle.aliases.proofs.aliases.put_host_line.Statement.{statement}
 use Rattle.aliases.proofs.aliases.put_host_line.Tie as tie
 

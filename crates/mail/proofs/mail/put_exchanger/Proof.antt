@@ -1,5 +1,4 @@
 use Rattle.mail.proofs.MailRecords.{exchanger·laws}
-use borrow.Author.Needs.{needs}
 use Rattle.mail.proofs.mail.put_exchanger.Statement.{statement}
 use Rattle.mail.proofs.mail.put_exchanger.Tie as tie
 

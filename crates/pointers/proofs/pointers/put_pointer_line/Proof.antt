@@ -1,15 +1,15 @@
-use Rattle.pointers.proofs.Pointing.{pointer·laws}
+use Rattle.pointers.proofs.Pointing.{pointing·laws}
 use Rattle.pointers.proofs.pointers.put_pointer_line.Statement.{statement}
 use Rattle.pointers.proofs.pointers.put_pointer_line.Tie as tie
 
 put-target-requires : tie.Need-put-target-requires
-put-target-requires c κs = search pointer·laws
+put-target-requires c κs = search pointing·laws
 
 same-length : tie.Need-same-length
-same-length c = search pointer·laws
+same-length c = search pointing·laws
 
 returns : tie.Need-returns
-returns c = search pointer·laws
+returns c = search pointing·laws
 
 pub put-pointer-line-spec : {M : Type 1} → statement M
 put-pointer-line-spec = tie.close (tie.spec put-target-requires same-length returns)

@@ -1,5 +1,4 @@
 use Rattle.reverse.proofs.Labels.{label·laws}
-use borrow.Author.Needs.{needs}
 use Rattle.reverse.proofs.reverse.labels_of.Statement.{statement}
 use Rattle.reverse.proofs.reverse.labels_of.Tie as tie
 

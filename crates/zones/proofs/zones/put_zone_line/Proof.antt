@@ -1,5 +1,4 @@
 use Rattle.zones.proofs.ZoneRecords.{zone-line·laws, zone-put}
-use borrow.Author.Needs.{needs}
 use Rattle.zones.proofs.zones.put_zone_line.Statement.{statement}
 use Rattle.zones.proofs.zones.put_zone_line.Tie as tie
 
