@@ -4,24 +4,28 @@
 set -eu
 cd "$(dirname -- "$0")"
 
+# compare SEED: half of the comparison
+compare() {
+    cargo run --release --quiet --package compare -- --seed "$1" --cases 250000
+}
+
 tests() {
     if cargo clippy --version >/dev/null 2>&1; then
         MUTANTS=1 cargo clippy --workspace --all-targets --quiet -- --deny warnings || return
     fi
-    cargo test --quiet &&
-        cargo run --release --quiet --package compare
+    cargo test --quiet && compare 1
 }
 
 cargo fmt --all --check
 
-# The mistakes are built and tried beside the tests and the comparison: each has
-# a processor of its own.
+# Two lanes, one for each processor: the mistakes are built and tried beside the
+# tests, and each lane makes half of the comparison.
 said=$(mktemp)
 trap 'rm -f "$said"' EXIT
-cargo run --release --quiet --package mutants >"$said" 2>&1 &
-mutants=$!
+{ cargo run --release --quiet --package mutants && compare 2; } >"$said" 2>&1 &
+mistakes=$!
 status=0
 tests || status=1
-wait "$mutants" || status=1
+wait "$mistakes" || status=1
 cat "$said"
 exit "$status"

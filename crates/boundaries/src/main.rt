@@ -4,7 +4,7 @@
 ghost use Prim.Native.Nat.{_≤_};
 use compiler::compile::compile;
 use console::arguments::argument;
-use console::files::read_file;
+use files::files::read_file;
 use hexadecimal::hex::print_hex;
 use libc::STDOUT_FILENO;
 use numbers::numbers::NumberRead;

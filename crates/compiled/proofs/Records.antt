@@ -16,8 +16,8 @@ use Rattle.rules.specs.declared.faults.Answer.{Answer}
 use Rattle.compiler.specs.Compiled.{IsCompiled}
 use Rattle.wire.proofs.Parts.{front-count}
 use Rattle.compiled.specs.Answers.{IsRecords, frontOf}
-use Rattle.console.specs.Fronts.{IsFront}
-use Rattle.console.proofs.Fronts.{whole}
+use Rattle.files.specs.Fronts.{IsFront}
+use Rattle.files.proofs.Fronts.{whole}
 
 -- a fault that is done and is not
 both : (b : Bool) → b ≡ true → b ≡ false → ⊥

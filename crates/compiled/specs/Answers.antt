@@ -6,8 +6,8 @@ use lib.ListN.{length}
 use Rattle.rules.specs.Lists.{pick}
 use Rattle.rules.specs.Answers.{isDone, compileAnswer, compileOutput}
 use Rattle.rules.specs.declared.faults.Answer.{Answer}
-use Rattle.console.specs.Fronts.{IsFront}
-use Rattle.console.specs.declared.files.Front.{Front}
+use Rattle.files.specs.Fronts.{IsFront}
+use Rattle.files.specs.declared.files.Front.{Front}
 use Rattle.compiled.specs.declared.compiled.Compiled.{Compiled}
 
 -- none where it is a refusal

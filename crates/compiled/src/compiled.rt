@@ -1,10 +1,10 @@
 // The records of a file.
-ghost use Rattle.console.specs.Fronts.{IsFront};
+ghost use Rattle.files.specs.Fronts.{IsFront};
 ghost use Rattle.compiled.specs.Answers.{IsRecords};
 use crate::reports::refuse_source;
 use compiler::compile::compile;
-use console::files::Front;
-use console::files::read_file;
+use files::files::Front;
+use files::files::read_file;
 use refusals::faults::is_done;
 use rules::faults::Answer;
 

@@ -1,8 +1,9 @@
 // The program's arguments.
 ghost use mathlib.Core.Path.{_≡_};
 ghost use Rattle.rules.specs.Fields.{numberOf, largestLong};
-ghost use Rattle.console.specs.Fronts.{IsFront, serialRead};
-use crate::files::Front;
+ghost use Rattle.files.specs.Fronts.{IsFront};
+ghost use Rattle.console.specs.Serials.{serialRead};
+use files::files::Front;
 use libc::STDERR_FILENO;
 use numbers::numbers::NumberRead;
 use numbers::numbers::number;

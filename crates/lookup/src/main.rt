@@ -7,7 +7,7 @@ use compiled::compiled::compile_file;
 use console::arguments::SerialRead;
 use console::arguments::argument;
 use console::arguments::serial;
-use console::files::read_file;
+use files::files::read_file;
 use libc::STDERR_FILENO;
 use pieces::pieces::piece_end;
 use print::print_answers;

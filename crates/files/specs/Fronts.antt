@@ -2,17 +2,11 @@
 use mathlib.Core.Path.{_≡_}
 use mathlib.Core.Bool.{false}
 use mathlib.Core.List.{List}
-use mathlib.Core.Option.{Option, none, some}
 use Prim.Native.Nat.{ℕ}
 use Rattle.io.specs.Counts.{Counts}
-use Rattle.console.specs.declared.files.Front.{Front}
-use Rattle.console.specs.declared.arguments.SerialRead.{SerialRead}
+use Rattle.files.specs.declared.files.Front.{Front}
 
 -- bytes at the front of a buffer, and none where not all could be had
 pub record IsFront (buffer : List ℕ) (r : Front) : Type 0 where
   pub counts : Counts (r .len) buffer
   pub wholeOrNone : r .whole ≡ false → r .len ≡ 0
-
-abbrev pub serialRead : SerialRead → Option ℕ
-serialRead (SerialRead.Good value) = some value
-serialRead SerialRead.Bad = none

@@ -1,6 +1,6 @@
-use Rattle.console.proofs.Fronts.{front·laws}
-use Rattle.console.proofs.files.read_file.Statement.{statement}
-use Rattle.console.proofs.files.read_file.Tie as tie
+use Rattle.files.proofs.Fronts.{front·laws}
+use Rattle.files.proofs.files.read_file.Statement.{statement}
+use Rattle.files.proofs.files.read_file.Tie as tie
 
 open-read-requires : tie.Need-open-read-requires
 open-read-requires c κs = search front·laws

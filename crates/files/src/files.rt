@@ -1,5 +1,5 @@
 // Whole files.
-ghost use Rattle.console.specs.Fronts.{IsFront};
+ghost use Rattle.files.specs.Fronts.{IsFront};
 use libc::STDERR_FILENO;
 
 // The first len bytes of a buffer that was lent: the whole argument or file, or none of it.
