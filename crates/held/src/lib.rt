@@ -1,12 +1,10 @@
 // A reader that holds compiled bytes and its own place in them.
 ghost use mathlib.Core.Path.{_≡_};
 ghost use Rattle.rules.specs.Reading.{askReply};
-ghost use Rattle.held.specs.Places.{foundAt, foundFrom};
-
-mod place;
-
-use place::Found;
-use place::record_at;
+ghost use Rattle.places.specs.Places.{foundAt};
+ghost use Rattle.held.specs.Nth.{foundFrom};
+use places::Found;
+use places::record_at;
 use rules::quantities::Moment;
 use rules::replies::Reply;
 
@@ -23,7 +21,7 @@ pub fn new<'a>(bytes: &'a [u8]) -> Reader<'a>
 }
 
 // What is at the reader's place.
-pub fn peek<'a>(r: Reader<'a>) -> Found
+fn peek<'a>(r: Reader<'a>) -> Found
     ensures { λ f. ⌜ f ≡ foundAt (now (r .entry .bytes)) (r .entry .at) ⌝ }
 {
     record_at(r.bytes, r.at)
@@ -53,7 +51,7 @@ pub fn ask<'a, 'b, 'c>(
 }
 
 // What is at a place of bytes, by a reader that begins there: whoever calls it with plain bytes needs no reader.
-pub fn record_from(bytes: &[u8], at: usize) -> Found
+fn record_from(bytes: &[u8], at: usize) -> Found
     ensures { λ f. ⌜ f ≡ foundAt (now (bytes .entry)) at ⌝ }
 {
     peek(Reader { bytes, at })

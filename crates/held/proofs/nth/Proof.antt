@@ -1,6 +1,6 @@
-use Rattle.held.proofs.Placing.{nth·laws}
+use Rattle.held.proofs.Passing.{nth·laws}
 use mathlib.Core.Path.{_≡_}
-use Rattle.held.specs.Places.{foundFrom}
+use Rattle.held.specs.Nth.{foundFrom}
 use Rattle.held.proofs.nth.Statement.{statement}
 use Rattle.held.proofs.nth.Tie as tie
 

@@ -39,13 +39,13 @@ use denote.Triple.Table.{entered, cited}
 use denote.Triple.Walked.{says, Stays, stay-none, stay-none-slice, walkOf, goes-none, goes-none-slice, Walks, ends-at, walked, walk-meets}
 use denote.Exit.{yes}
 use denote.Triple.Clauses.{ensured, lasts}
-use Rattle.held.specs.Places.{foundAt}
+use Rattle.places.specs.Places.{foundAt}
 use Rattle.held.specs.declared.Reader.{Reader}
-use Rattle.held.specs.declared.place.Found.{Found}
+use Rattle.places.specs.declared.Found.{Found}
 use Rattle.held.proofs.Reader as T
 use Rattle.held.proofs.Reader.Laws as T′
-use Rattle.held.proofs.place.Found as S
-use Rattle.held.proofs.place.Found.Laws as S′
+use Rattle.places.proofs.Found as S
+use Rattle.places.proofs.Found.Laws as S′
 use Rattle.held.proofs.peek as peek
 use Rattle.held.proofs.peek.Symbol as peek-def
 use Rattle.held.proofs.peek.Symbol.{name as #held·peek}

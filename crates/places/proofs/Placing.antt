@@ -18,8 +18,8 @@ use Rattle.stream.specs.Spans.{part}
 use Rattle.judge.specs.Seen.{seenRecord}
 use Rattle.stream.proofs.Heads.{malformed, broken-is}
 use Rattle.stream.proofs.Spans.{head-left, whole, key-part, data-part}
-use Rattle.held.specs.declared.place.Found.{Found}
-use Rattle.held.specs.Places.{nothingAt, placesAt, foundAt, foundFrom}
+use Rattle.places.specs.declared.Found.{Found}
+use Rattle.places.specs.Places.{nothingAt, placesAt, foundAt}
 
 -- ---- whether a key and data are a record
 
@@ -69,41 +69,3 @@ module _ (bytes : List ℕ) (at : ℕ) where
           sum = omega arith
 
 pub ruleset place·laws = (needs, at-end, no-head, malformed-there, whole-there)
-
--- ---- the records from a place on
-
-module _ (bytes : List ℕ) where
-  -- nothing whole is passed
-  stays : (at : ℕ) → foundAt bytes at .whole ≡ false → foundAt bytes at .next ≡ at
-  unfolding foundAt placesAt nothingAt pick
-  stays at = go (isSome (recordAt (drop at bytes)))
-    where
-      go : (t : Bool) → pick t (placesAt bytes at) (nothingAt at) .whole ≡ false → pick t (placesAt bytes at) (nothingAt at) .next ≡ at
-      go true e = let z : _≡_ {A = ℕ} 0 1 = cc in absurd (omega arith)
-      go false e = refl
-
-  stuck : (n at : ℕ) → foundAt bytes at .whole ≡ false → foundFrom n bytes at ≡ foundAt bytes at
-  unfolding foundFrom
-  stuck zero at e = refl
-  stuck (suc n) at e = ap (foundFrom n bytes) (stays at e) ∙ stuck n at e
-
-  pub ended : (n left at : ℕ) (f : Found) → foundFrom left bytes at ≡ foundFrom n bytes 0 → f ≡ foundAt bytes at → not (f .whole) ≡ true → f ≡ foundFrom n bytes 0
-  ended n left at f i e w = e ∙ sym (stuck left at (go (f .whole) (ap (λ (x : Found). x .whole) e) w)) ∙ i
-    where
-      go : (t : Bool) → t ≡ foundAt bytes at .whole → not t ≡ true → foundAt bytes at .whole ≡ false
-      go true q e = let z : _≡_ {A = ℕ} 0 1 = cc in absurd (omega arith)
-      go false q e = sym q
-
-  pub passed : (n left at : ℕ) (f : Found) → foundFrom left bytes at ≡ foundFrom n bytes 0 → 0 < left → f ≡ foundAt bytes at → foundFrom (left - 1) bytes (f .next) ≡ foundFrom n bytes 0
-  unfolding foundFrom
-  passed n zero at f i h e = absurd (omega arith)
-  passed n (suc left) at f i h e =
-      let q : suc left - 1 ≡ left = omega arith in
-      rw (q, e) i
-
-  pub arrived : (n left at : ℕ) (f : Found) → foundFrom left bytes at ≡ foundFrom n bytes 0 → left ≤ 0 → f ≡ foundAt bytes at → f ≡ foundFrom n bytes 0
-  unfolding foundFrom
-  arrived n zero at f i h e = e ∙ i
-  arrived n (suc left) at f i h e = absurd (omega arith)
-
-pub ruleset nth·laws = (needs, ended, passed, arrived)

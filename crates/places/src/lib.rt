@@ -3,7 +3,7 @@ ghost use mathlib.Core.Path.{_≡_};
 ghost use mathlib.Core.Bool.{true};
 ghost use Rattle.rules.specs.Lists.{isSome};
 ghost use Rattle.rules.specs.Reading.{recordIn};
-ghost use Rattle.held.specs.Places.{foundAt};
+ghost use Rattle.places.specs.Places.{foundAt};
 use judge::Seen;
 use judge::record_in;
 use stream::Head;

@@ -1,11 +1,11 @@
-use Rattle.held.proofs.Placing.{place·laws}
+use Rattle.places.proofs.Placing.{place·laws}
 use Prim.Native.Nat.{_+_, _≤_}
 use native.Mathlib.Omega.{arith}
 use lib.ListN.{length}
 use denote.Ref.{now}
 use Rattle.stream.proofs.Spans.{long-enough}
-use Rattle.held.proofs.place.record_at.Statement.{statement}
-use Rattle.held.proofs.place.record_at.Tie as tie
+use Rattle.places.proofs.record_at.Statement.{statement}
+use Rattle.places.proofs.record_at.Tie as tie
 
 -- the record ends within the bytes
 inside : (c : tie.After-known-told) → c .before .before .before .before .before .before .before .args .at + 8 + c .before .long .given .0 .0 + c .before .long .given .0 .1 .0 ≤ length (now (c .before .before .before .before .before .before .before .args .bytes))

@@ -1,11 +1,11 @@
--- The record at a place of a stream, and the records from a place on.
-use Prim.Native.Nat.{ℕ, zero, suc, _+_}
+-- The record at a place of a stream.
+use Prim.Native.Nat.{ℕ, _+_}
 use mathlib.Core.Bool.{true, false}
 use mathlib.Core.List.{List}
 use lib.ListN.{drop}
 use Rattle.rules.specs.Lists.{pick, isSome}
 use Rattle.stream.specs.Heads.{keyLength, sizeAt, recordAt}
-use Rattle.held.specs.declared.place.Found.{Found}
+use Rattle.places.specs.declared.Found.{Found}
 
 -- nothing whole is there
 unfoldable pub nothingAt : ℕ → Found
@@ -17,8 +17,3 @@ placesAt bytes at = record { whole = true; key = at + 8; rdata = at + 8 + keyLen
 
 unfoldable pub foundAt : List ℕ → ℕ → Found
 foundAt bytes at = pick (isSome (recordAt (drop at bytes))) (placesAt bytes at) (nothingAt at)
-
--- the record behind so many others; what isn't whole is never passed
-unfoldable pub foundFrom : ℕ → List ℕ → ℕ → Found
-foundFrom zero bytes at = foundAt bytes at
-foundFrom (suc count) bytes at = foundFrom count bytes (foundAt bytes at .next)

@@ -1,6 +1,6 @@
-use Rattle.held.proofs.Placing.{record·laws}
-use Rattle.held.proofs.place.is_record.Statement.{statement}
-use Rattle.held.proofs.place.is_record.Tie as tie
+use Rattle.places.proofs.Placing.{record·laws}
+use Rattle.places.proofs.is_record.Statement.{statement}
+use Rattle.places.proofs.is_record.Tie as tie
 
 record-in-requires : tie.Need-record-in-requires
 record-in-requires c κs = search record·laws
