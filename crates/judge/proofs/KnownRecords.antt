@@ -7,7 +7,7 @@ use Prim.Native.Nat.{ℕ, _+_, _*_, _<_, _≤_}
 use native.Mathlib.Omega.{arith}
 use borrow.Author.Needs.{needs}
 use borrow.Author.Tests.{ne-eqb}
-use lib.Dec.{T, eqb, leb}
+use lib.Dec.{eqb, leb}
 use lib.ListN.{length, take, drop, getD, length-drop}
 use Rattle.rules.specs.declared.quantities.Lo.{Lo}
 use Rattle.rules.specs.Lists.{pick, fromBE, isSome}
@@ -20,7 +20,7 @@ use Rattle.judge.specs.declared.Flag.{Flag}
 use Rattle.judge.specs.Seen.{seenRecord, fixedIn, sharedIn, seenWith, wildcardFlag, loIn, loFlag, flagBy, flagIn, isWhole, seenFlag, seenIn}
 use Rattle.judge.proofs.SeenRecords.{code, equals, star}
 use Rattle.judge.proofs.Meanings.{behind, onFlag, flag-means, two-there, ttl-inside, behind-fixed, no-fixed}
-use Rattle.judge.proofs.ByKeys.{name-is, location-key, key-long, location-fixed}
+use Rattle.judge.proofs.ByKeys.{name-is, location-key, key-long}
 
 -- ---- a flag that is neither `=` nor `*` has a lo behind it
 

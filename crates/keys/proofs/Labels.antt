@@ -9,11 +9,11 @@ use borrow.Author.Tests.{eq-eqb, ne-eqb, le-leb, lt-leb, eqb-true, eqb-false, lt
 use lib.Dec.{eqb, leb, ltb}
 use lib.ListN.{length, getD, drop, length-drop, drop-of-length-le}
 use lib.Seq.{drop-drop}
-use Rattle.rules.specs.Lists.{pick, all, beginsWith}
+use Rattle.rules.specs.Lists.{beginsWith}
 use Rattle.rules.specs.Names.{labels, isWire, longestName}
 use Rattle.rules.specs.Fields.{letter}
 use Rattle.rules.specs.Bytes.{wild}
-use Rattle.rules.specs.Reading.{lowered, isLo}
+use Rattle.rules.specs.Reading.{isLo}
 use Rattle.wire.proofs.Steps.{left-at}
 
 -- a test that says what another does
