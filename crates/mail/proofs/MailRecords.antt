@@ -16,7 +16,7 @@ use Rattle.wire.proofs.Parts.{front-count}
 use Rattle.heads.specs.Head.{headSize}
 use Rattle.hosts.specs.HostLines.{middleOf, IsHostLine, hostRecords}
 use Rattle.hosts.specs.declared.hosts.HostLine.{HostLine}
-use Rattle.hosts.proofs.HostRecords.{lendable, same-read}
+use Rattle.hosts.proofs.HostRecords.{same-read}
 use Rattle.records.proofs.Sequence.{rest-fits, rest-starts, rest-put, first-fits}
 use Rattle.values.proofs.Readiness.{ready-fields}
 
@@ -45,4 +45,4 @@ module _ (shared : Shared) (owner host : List ℕ) (rs : List Record) (n : ℕ) 
 
 pub ruleset exchanger·laws = (needs, front-count, rest-fits, rest-starts, rest-put, mx-room)
 
-pub ruleset mail-line·laws = (needs, lendable, ready-fields, mail-room, mail-put, mx-label)
+pub ruleset mail-line·laws = (needs, ready-fields, mx-label)
