@@ -23,7 +23,6 @@ use Rattle.aliases.specs.Alone.{IsAddressLine, Holding, aliasRecords, po
 use Rattle.aliases.specs.declared.aliases.AddressLine.{AddressLine}
 use Rattle.names.specs.declared.names.Name.{Name}
 use Rattle.names.proofs.Holding.{held-short, held-long}
-use Rattle.values.proofs.Readiness.{ready-fields, owner-named}
 use Rattle.records.proofs.Sequence.{only, first-fits, room-of, put-of}
 
 pub alias-fields : 3 ≤ fieldCount Kind.Alias
@@ -37,8 +36,6 @@ host-fields = omega arith
 pub line-read : (kind : Kind) (s : List ℕ) (shared : Shared) (owner : Name) (address : AddressRead) → shared ≡ sharedOf kind (splitOn 58 s) → IsName (wireOf (fieldAt (splitOn 58 s) 0)) owner
     → (heldAddress address ≡ addressIn (fieldAt (splitOn 58 s) 1)) × IsHeld address → IsAddressLine kind s (record { shared = shared; owner = owner; address = address })
 line-read kind s shared owner address a b c = record { shared = a; owner = b; address = c .0; held = c .1 }
-
-pub ruleset address-line·laws = (needs, ready-fields, owner-named, line-read)
 
 module _ (kind : Kind) (s : List ℕ) (l : AddressLine) (p : IsAddressLine kind s l) where
   pub holding : Holding l
@@ -62,17 +59,17 @@ pub ruleset alias-line·laws = (needs, alias-fields, holding, room-of, put-of, a
 
 -- ---- the PTR
 
-module _ (l : AddressLine) (reverse : Name) (c : IsName (reverseName (heldAddress (l .address))) reverse) where
-  pub back-room : (n : ℕ) → length (bytesOf (pointerRecord l ∷ [])) ≤ n → headSize (l .shared) (heldName reverse) + length (heldName (l .owner)) ≤ n
-  back-room n h = rw (c .held) (first-fits (l .shared) (reverseName (heldAddress (l .address))) 12 [] n (heldName (l .owner)) h)
+module _ (shared : Shared) (owner address : List ℕ) (reverse : Name) (c : IsName (reverseName address) reverse) where
+  pub back-room : (n : ℕ) → length (bytesOf (resourceOf shared (reverseName address) 12 owner ∷ [])) ≤ n → headSize shared (heldName reverse) + length owner ≤ n
+  back-room n h = rw (c .held) (first-fits shared (reverseName address) 12 [] n owner h)
 
-  pub back-put : (d e : List ℕ) (r : ℕ) → IsPut (encode (resourceOf (l .shared) (heldName reverse) 12 (heldName (l .owner)))) d e r → IsPut (bytesOf (pointerRecord l ∷ [])) d e r
-  back-put d e r q = only (pointerRecord l) d e r (rw (c .held) at q)
+  pub back-put : (d e : List ℕ) (r : ℕ) → IsPut (encode (resourceOf shared (heldName reverse) 12 owner)) d e r → IsPut (bytesOf (resourceOf shared (reverseName address) 12 owner ∷ [])) d e r
+  back-put d e r q = only (resourceOf shared (reverseName address) 12 owner) d e r (rw (c .held) at q)
 
 pub address-few : (a : AddressRead) → IsHeld a → length (heldAddress a) ≤ 16
 address-few a h = omega (arith, h .few, lib.Seq.length-take-le (a .len) (a .bytes) (omega (arith, h .few, h .long)))
 
-pub ruleset back·laws = (needs, front-count, back-room, back-put, address-few, held-short, held-long)
+pub ruleset back·laws = (needs, front-count, address-few, held-short, held-long)
 
 -- ---- both
 

@@ -14,22 +14,31 @@ use Rattle.rules.specs.declared.quantities.Priority.{Priority}
 use Rattle.rules.specs.declared.quantities.Shared.{Shared}
 use Rattle.rules.specs.declared.quantities.Weight.{Weight}
 use Rattle.rules.proofs.Numbers.{length-be}
+use Rattle.buffer.specs.Put.{IsPut}
 use Rattle.wire.proofs.Parts.{front-count}
 use Rattle.heads.specs.Head.{headSize}
 use Rattle.hosts.specs.HostLines.{middleOf, IsHostLine}
 use Rattle.hosts.specs.declared.hosts.HostLine.{HostLine}
 use Rattle.services.specs.ServiceLines.{serviceRecords}
-use Rattle.hosts.proofs.HostRecords.{lendable, same-read}
-use Rattle.records.proofs.Sequence.{rest-fits, rest-starts, rest-put, first-fits, room-of, put-of}
+use Rattle.hosts.proofs.HostRecords.{same-read}
+use Rattle.records.proofs.Sequence.{rest-fits, rest-starts, rest-put, first-fits}
 use Rattle.values.proofs.Readiness.{ready-fields}
 
-pub service-is : (port priority weight : ℕ) (s : List ℕ) (h : HostLine) → IsHostLine Kind.Service s h
-    → port ≡ shortAt (splitOn 58 s) 3 → priority ≡ shortAt (splitOn 58 s) 4 → weight ≡ shortAt (splitOn 58 s) 5
-    → serviceRecords h (record { 0 = priority }) (record { 0 = weight }) (record { 0 = port }) ≡ recordsOf 0 Kind.Service (splitOn 58 s)
-unfolding recordsOf middleOf srvData
-service-is port priority weight s h p a b c =
-    same-read Kind.Service s h p (λ shared owner host address. resourceOf shared owner 33 (srvData (record { 0 = priority }) (record { 0 = weight }) (record { 0 = port }) host) ∷ addressRecords shared host address)
-    ∙ rw (a, b, c)
+module _ (port priority weight : ℕ) (s : List ℕ) (h : HostLine) (p : IsHostLine Kind.Service s h)
+    (a : port ≡ shortAt (splitOn 58 s) 3) (b : priority ≡ shortAt (splitOn 58 s) 4) (c : weight ≡ shortAt (splitOn 58 s) 5) where
+  service-is : serviceRecords h (record { 0 = priority }) (record { 0 = weight }) (record { 0 = port }) ≡ recordsOf 0 Kind.Service (splitOn 58 s)
+  unfolding recordsOf middleOf srvData
+  service-is =
+      same-read Kind.Service s h p (λ shared owner host address. resourceOf shared owner 33 (srvData (record { 0 = priority }) (record { 0 = weight }) (record { 0 = port }) host) ∷ addressRecords shared host address)
+      ∙ rw (a, b, c)
+
+  pub service-room : (n : ℕ) → length (bytesOf (recordsOf 0 Kind.Service (splitOn 58 s))) ≤ n
+      → length (bytesOf (serviceRecords h (record { 0 = priority }) (record { 0 = weight }) (record { 0 = port }))) ≤ n
+  service-room n k = rw service-is k
+
+  pub service-put : (d f : List ℕ) (r : ℕ) → IsPut (bytesOf (serviceRecords h (record { 0 = priority }) (record { 0 = weight }) (record { 0 = port }))) d f r
+      → IsPut (bytesOf (recordsOf 0 Kind.Service (splitOn 58 s))) d f r
+  service-put d f r q = rw service-is at q
 
 pub srv-label : _≡_ {A = List ℕ} (115 ∷ 114 ∷ 118 ∷ []) (middleOf Kind.Service)
 unfolding middleOf srv
@@ -44,4 +53,4 @@ module _ (shared : Shared) (owner host : List ℕ) (rs : List Record) (n : ℕ) 
 
 pub ruleset service·laws = (needs, front-count, rest-fits, rest-starts, rest-put, srv-room)
 
-pub ruleset service-line·laws = (needs, lendable, ready-fields, room-of, put-of, service-is, srv-label)
+pub ruleset service-line·laws = (needs, ready-fields, srv-label)

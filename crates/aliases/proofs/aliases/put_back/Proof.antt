@@ -1,4 +1,4 @@
-use Rattle.aliases.proofs.AddressLines.{back·laws}
+use Rattle.aliases.proofs.AddressLines.{back·laws, back-room, back-put}
 use Rattle.aliases.proofs.aliases.put_back.Statement.{statement}
 use Rattle.aliases.proofs.aliases.put_back.Tie as tie
 
@@ -24,13 +24,17 @@ slice-aggregate-put-resource-2 : tie.Need-slice-aggregate-put-resource-2
 slice-aggregate-put-resource-2 c = search back·laws
 
 put-resource-requires : tie.Need-put-resource-requires
-put-resource-requires c κs = search back·laws
+put-resource-requires c κs =
+    let read = c .before .before .before .before in
+    back-room _ _ _ _ (read .read-reverse .ensures) _ (read .before .before .before .before .before .pre .1)
 
 same-length : tie.Need-same-length
 same-length c = search back·laws
 
 returns : tie.Need-returns
-returns c = search back·laws
+returns c =
+    let put = c .before .before in
+    back-put _ _ _ _ (put .before .before .before .before .before .read-reverse .ensures) _ _ _ (put .put-resource .ensures .0)
 
 pub put-back-spec : {M : Type 1} → statement M
 put-back-spec =
