@@ -46,7 +46,7 @@ pub zone-label : _≡_ {A = List ℕ} (110 ∷ 115 ∷ []) (middleOf Kind.Zone)
 unfolding middleOf ns
 zone-label = refl
 
-pub ruleset delegation·laws = (needs, lendable, room-of, put-of, delegation-is, ns-label)
+pub ruleset delegation·laws = (needs, lendable, room-of, put-of, delegation-is)
 
 -- a contact of a zone without a fault is a name
 pub contact-short : (s : List ℕ) (spans : List Span) (h : HostLine) → Ready Kind.Zone s spans → IsHostLine Kind.Zone s h → length (contactOf (heldName (h .owner))) ≤ 255
@@ -63,12 +63,12 @@ pub lasting : (shared : Shared) → (shared .ttl .0 ≡ 0 → ⊥) → record { 
 unfolding soaShared pick
 lasting shared e = rw (ne-eqb _ _ e)
 
-module _ (serial : ℕ) (h : HostLine) (shared : Shared) (contact : Name) (e : shared ≡ soaShared (h .shared)) (c : IsName (contactOf (heldName (h .owner))) contact) where
-  pub authority-put : (d f : List ℕ) (r : ℕ)
-      → IsPut (encode (resourceOf shared (heldName (h .owner)) 6 (soaData (heldName (h .host)) (heldName contact) serial 16384 2048 1048576 2560))) d f r
-      → IsPut (encode (soaRecord serial h)) d f r
-  authority-put d f r q = rw (← e, ← (c .held)) q
+pub authority-put : (serial : ℕ) (line shared : Shared) (owner host : List ℕ) (contact : Name) → shared ≡ soaShared line → IsName (contactOf owner) contact → (d f : List ℕ) (r : ℕ)
+    → IsPut (encode (resourceOf shared owner 6 (soaData host (heldName contact) serial 16384 2048 1048576 2560))) d f r
+    → IsPut (encode (resourceOf (soaShared line) owner 6 (soaData host (contactOf owner) serial 16384 2048 1048576 2560))) d f r
+authority-put serial line shared owner host contact e c d f r q = rw (← e, ← (c .held)) q
 
+module _ (serial : ℕ) (h : HostLine) (shared : Shared) (contact : Name) (e : shared ≡ soaShared (h .shared)) (c : IsName (contactOf (heldName (h .owner))) contact) where
   pub authority-room : (n : ℕ) → length (bytesOf (zoneRecords serial h)) ≤ n → headSize shared (heldName (h .owner)) + (20 + length (heldName (h .host)) + length (heldName contact)) ≤ n
   unfolding soaData
   authority-room n k =
@@ -76,7 +76,7 @@ module _ (serial : ℕ) (h : HostLine) (shared : Shared) (contact : Name) (e : s
       let l : length (soaData (heldName (h .host)) (contactOf (heldName (h .owner))) serial 16384 2048 1048576 2560) ≡ length (heldName (h .host)) + length (contactOf (heldName (h .owner))) + 20 = simp (length-append, length-be) (omega arith) in
       rw (e, c .held) (omega arith)
 
-pub ruleset authority·laws = (needs, front-count, authority-put, authority-room, held-short, held-long)
+pub ruleset authority·laws = (needs, front-count, authority-room, held-short, held-long)
 
 -- the name server behind the SOA
 pub zone-put : (serial : ℕ) (s : List ℕ) (h : HostLine) (d e f : List ℕ) (a k : ℕ) → IsHostLine Kind.Zone s h → length (bytesOf (recordsOf serial Kind.Zone (splitOn 58 s))) ≤ length d
@@ -87,4 +87,4 @@ zone-put serial s h d e f a k p room q r =
     put-of (zoneRecords serial h) (recordsOf serial Kind.Zone (splitOn 58 s)) (zone-is serial s h p) d (backAt a e f) (a + k)
     (rest-put (soaRecord serial h) (hostRecords h 2 []) d e a room′ q f k r)
 
-pub ruleset zone-line·laws = (needs, lendable, contact-short, room-of, zone-is, zone-label, rest-fits, rest-starts)
+pub ruleset zone-line·laws = (needs, lendable, contact-short, room-of, zone-is, rest-fits, rest-starts)

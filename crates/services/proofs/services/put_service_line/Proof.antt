@@ -35,7 +35,7 @@ returns c =
     let put = c .before .before in
     let weight = put .before .before in
     service-put _ _ _ _ _ (weight .before .before .before .host-line .ensures) (weight .before .before .short-at .ensures) (weight .before .short-at2 .ensures) (weight .short-at3 .ensures) _ _ _
-        (put .put-service .ensures)
+    (put .put-service .ensures)
 
 pub put-service-line-spec : {M : Type 1} → statement M
 put-service-line-spec =

@@ -1,4 +1,4 @@
-use Rattle.zones.proofs.ZoneRecords.{authority·laws}
+use Rattle.zones.proofs.ZoneRecords.{authority-put, authority·laws}
 use Rattle.zones.proofs.zones.put_authority.Statement.{statement}
 use Rattle.zones.proofs.zones.put_authority.Tie as tie
 
@@ -33,7 +33,11 @@ same-length : tie.Need-same-length
 same-length c = search authority·laws
 
 returns : tie.Need-returns
-returns c = search authority·laws
+returns c =
+    let put = c .before .before in
+    let shared = put .before .before .before in
+    let contact = shared .before .before .before in
+    authority-put _ _ _ _ _ _ (shared .soa-shared .ensures) (contact .read-contact .ensures) _ _ _ (put .put-soa .ensures .0)
 
 pub put-authority-spec : {M : Type 1} → statement M
 put-authority-spec =

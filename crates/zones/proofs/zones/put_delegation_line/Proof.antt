@@ -1,4 +1,6 @@
-use Rattle.zones.proofs.ZoneRecords.{delegation·laws}
+use mathlib.Core.Path.{refl}
+use borrow.Author.Needs.{needs}
+use Rattle.zones.proofs.ZoneRecords.{ns-label, delegation·laws}
 use Rattle.zones.proofs.zones.put_delegation_line.Statement.{statement}
 use Rattle.zones.proofs.zones.put_delegation_line.Tie as tie
 
@@ -6,7 +8,7 @@ slice-aggregate-host-line : tie.Need-slice-aggregate-host-line
 slice-aggregate-host-line c = search delegation·laws
 
 host-line-requires : tie.Need-host-line-requires
-host-line-requires c κs = search delegation·laws
+host-line-requires c κs = (search needs, refl, ns-label)
 
 put-server-requires : tie.Need-put-server-requires
 put-server-requires c κs = search delegation·laws

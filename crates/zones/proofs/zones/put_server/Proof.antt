@@ -1,4 +1,4 @@
-use Rattle.records.proofs.Sequence.{sequence·laws}
+use Rattle.records.proofs.Sequence.{rest-fits, rest-put, sequence·laws}
 use Rattle.zones.proofs.zones.put_server.Statement.{statement}
 use Rattle.zones.proofs.zones.put_server.Tie as tie
 
@@ -27,7 +27,10 @@ part-put-address-end : tie.Need-part-put-address-end
 part-put-address-end c = search sequence·laws
 
 put-address-requires : tie.Need-put-address-requires
-put-address-requires c κs = search sequence·laws
+put-address-requires c κs =
+    let first = c .before .before .before in
+    let start = first .before .before .before .before .before .before .before .before in
+    (start .pre .0 .held, rest-fits _ _ _ _ _ (start .pre .1) (first .put-resource .ensures .0))
 
 add-result : tie.Need-add-result
 add-result c = search sequence·laws
@@ -36,7 +39,11 @@ same-length : tie.Need-same-length
 same-length c = search sequence·laws
 
 returns : tie.Need-returns
-returns c = search sequence·laws
+returns c =
+    let second = c .before .before in
+    let first = second .before .before .before .before in
+    let start = first .before .before .before .before .before .before .before .before in
+    rest-put _ _ _ _ _ (start .pre .1) (first .put-resource .ensures .0) _ _ (second .put-address .ensures)
 
 pub put-server-spec : {M : Type 1} → statement M
 put-server-spec =

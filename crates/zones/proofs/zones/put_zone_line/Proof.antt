@@ -1,4 +1,6 @@
-use Rattle.zones.proofs.ZoneRecords.{zone-line·laws, zone-put}
+use mathlib.Core.Path.{refl}
+use borrow.Author.Needs.{needs}
+use Rattle.zones.proofs.ZoneRecords.{zone-label, zone-line·laws, zone-put}
 use Rattle.zones.proofs.zones.put_zone_line.Statement.{statement}
 use Rattle.zones.proofs.zones.put_zone_line.Tie as tie
 
@@ -6,7 +8,7 @@ slice-aggregate-host-line : tie.Need-slice-aggregate-host-line
 slice-aggregate-host-line c = search zone-line·laws
 
 host-line-requires : tie.Need-host-line-requires
-host-line-requires c κs = search zone-line·laws
+host-line-requires c κs = (search needs, refl, zone-label)
 
 put-authority-requires : tie.Need-put-authority-requires
 put-authority-requires c κs = search zone-line·laws
