@@ -50,5 +50,3 @@ module _ (s : List ℕ) (spans : List Span) where
   pub canonical-points : Ready Kind.Canonical s spans → Points Kind.Canonical s 5
   unfolding fieldCount meanings common faultOf recordsOf
   canonical-points r = record { count = omega arith; named = needed-named _ (done s spans Kind.Canonical r .1 .0); says = refl }
-
-pub ruleset pointing·laws = (needs, pointer-points, canonical-points)
