@@ -63,7 +63,11 @@ fn read_serial() -> SerialRead {
     }
     let mut text = [0u8; 16];
     let given = argument(3, &mut text);
+    let whole = given.whole;
     let len = given.len;
+    if !whole {
+        return SerialRead::Bad;
+    }
     serial(&text[..len])
 }
 

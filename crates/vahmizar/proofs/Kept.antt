@@ -22,7 +22,7 @@ use Rattle.rules.proofs.Meaning.{keeps-the-meaning}
 use Rattle.wire.proofs.Parts.{front-count}
 use Rattle.compiler.specs.Compiled.{IsCompiled}
 use Rattle.vahmizar.specs.declared.both.Outcome.{Outcome}
-use Rattle.vahmizar.specs.Promises.{laid, Compiles, Asks, Answered, TheCallRefusesExactly, Askable, Tells, Told, TheCallsKeepTheMeaning, Serves}
+use Rattle.vahmizar.specs.Promises.{laid, Compiles, Asks, Answered, TheCallRefusesExactly, Askable, Tells, Told, TheCallsKeepTheMeaning, outcomeNumbers, Serves}
 
 -- past the check of the answer's length
 past {ℓ} : {A : Type ℓ} (n : ℕ) (s : List ℕ) (x y z : A) → length s ≡ n → x ≡ pick (eqb (length s) n) y z → x ≡ y
@@ -102,11 +102,12 @@ module _ (source : List ℕ) (serial : ℕ) (out out′ : List ℕ) (a : Answer)
   done-accepted d = refuses-exactly source serial (length out) .onlyDone (ap (λ (x : Answer). x .fault) (sym (c .answer)) ∙ done-is (a .fault) (sym f ∙ d))
 
   pub not-compiled : (q : Question) (ordinal : ℕ) → not done ≡ true → Serves source serial out q ordinal out′ (Outcome.NotCompiled a)
-  unfolding pick
+  unfolding pick outcomeNumbers
   not-compiled q ordinal t =
       let d : isDone (a .fault) ≡ false = sym f ∙ not-true done t in
       record {
         outcome = rw (← c .answer, d);
+        numbers = rw (← c .answer, d);
         output = c .output;
         meaning = λ ok room askable. absurd (true≢false (sym (accepted-done ok room) ∙ d));
       }
@@ -127,11 +128,12 @@ module _ (source : List ℕ) (serial : ℕ) (out out′ : List ℕ) (a : Answer)
 
     pub served : (q : Question) (ordinal : ℕ) (reply : Reply) → reply ≡ askReply (take (a .bytes) out′) q ordinal
         → Serves source serial out q ordinal out′ (Outcome.Asked reply)
-    unfolding pick compiledBytes
+    unfolding pick compiledBytes outcomeNumbers
     served q ordinal reply e =
         let d : isDone (a .fault) ≡ true = sym f ∙ not-false done t in
         record {
           outcome = rw (← c .answer, d, ← c .output, ← e);
+          numbers = rw (← c .answer, d, ← c .output, ← e);
           output = c .output;
           meaning = λ ok room askable. (reply, (refl, rw (e, count-is) (tells-in source serial out ok room out′ (c .output) q ordinal askable)));
         }

@@ -84,10 +84,18 @@ TheCallsKeepTheMeaning =
 
 -- ---- The same over running code: compile_and_ask compiles into `out`, then asks exactly what it wrote there
 
+-- the numbers of what was answered, by the call that answered it
+unfoldable pub outcomeNumbers : Outcome → List ℕ
+outcomeNumbers (Outcome.NotCompiled answer) = numbersOf answer
+outcomeNumbers (Outcome.Asked reply) = replyNumbers reply
+
 pub record Serves (source : List ℕ) (serial : ℕ) (out : List ℕ) (q : Question) (ordinal : ℕ) (out′ : List ℕ) (r : Outcome) : Type 0 where
   pub outcome :
       r ≡ pick (isDone (compileAnswer source serial (length out) .fault)) (Outcome.Asked (askReply (compiledBytes source serial out) q ordinal))
       (Outcome.NotCompiled (compileAnswer source serial (length out)))
+  pub numbers :
+      outcomeNumbers r ≡ pick (isDone (compileAnswer source serial (length out) .fault)) (replyNumbers (askReply (compiledBytes source serial out) q ordinal))
+      (numbersOf (compileAnswer source serial (length out)))
   pub output : out′ ≡ compileOutput source serial out
   pub meaning :
       Accepted source → needed serial source ≤ length out → Askable q
