@@ -9,11 +9,13 @@ compare() {
     cargo run --release --quiet --package compare -- --seed "$1" --cases 250000
 }
 
+# In a folder of their own: cargo builds in one folder at a time only once.
 tests() {
+    checks=$PWD/target/checks
     if cargo clippy --version >/dev/null 2>&1; then
-        MUTANTS=1 cargo clippy --workspace --all-targets --quiet -- --deny warnings || return
+        CARGO_TARGET_DIR=$checks MUTANTS=1 cargo clippy --workspace --all-targets --quiet -- --deny warnings || return
     fi
-    cargo test --quiet && compare 1
+    CARGO_TARGET_DIR=$checks cargo test --quiet && compare 1
 }
 
 cargo fmt --all --check
