@@ -8,7 +8,7 @@ use Rattle.rules.specs.Answers.{isDone, compileAnswer, compileOutput}
 use Rattle.rules.specs.declared.faults.Answer.{Answer}
 use Rattle.files.specs.Fronts.{IsFront}
 use Rattle.files.specs.declared.files.Front.{Front}
-use Rattle.compiled.specs.declared.compiled.Compiled.{Compiled}
+use Rattle.lookup.specs.declared.compiled.Compiled.{Compiled}
 
 -- none where it is a refusal
 unfoldable pub frontOf : Answer → Front

@@ -1,6 +1,6 @@
 // The records of a file.
 ghost use Rattle.files.specs.Fronts.{IsFront};
-ghost use Rattle.compiled.specs.Answers.{IsRecords};
+ghost use Rattle.lookup.specs.Answers.{IsRecords};
 use crate::reports::refuse_source;
 use compiler::compile::compile;
 use files::files::Front;

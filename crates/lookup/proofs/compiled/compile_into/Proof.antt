@@ -1,7 +1,7 @@
-use Rattle.compiled.proofs.Records.{records·laws}
+use Rattle.lookup.proofs.Records.{records·laws}
 use borrow.Author.Needs.{needs}
-use Rattle.compiled.proofs.compiled.compile_into.Statement.{statement}
-use Rattle.compiled.proofs.compiled.compile_into.Tie as tie
+use Rattle.lookup.proofs.compiled.compile_into.Statement.{statement}
+use Rattle.lookup.proofs.compiled.compile_into.Tie as tie
 
 compile-requires : tie.Need-compile-requires
 compile-requires c κs = search records·laws

@@ -15,7 +15,7 @@ use Rattle.rules.specs.declared.faults.Fault.{Fault}
 use Rattle.rules.specs.declared.faults.Answer.{Answer}
 use Rattle.compiler.specs.Compiled.{IsCompiled}
 use Rattle.wire.proofs.Parts.{front-count}
-use Rattle.compiled.specs.Answers.{IsRecords, frontOf}
+use Rattle.lookup.specs.Answers.{IsRecords, frontOf}
 use Rattle.files.specs.Fronts.{IsFront}
 use Rattle.files.proofs.Fronts.{whole}
 
