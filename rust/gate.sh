@@ -4,9 +4,9 @@
 set -eu
 cd "$(dirname -- "$0")"
 
-# compare SEED: half of the comparison
+# compare SEED CASES: a part of the comparison
 compare() {
-    cargo run --release --quiet --package compare -- --seed "$1" --cases 250000
+    cargo run --release --quiet --package compare -- --seed "$1" --cases "$2"
 }
 
 # In a folder of their own: cargo builds in one folder at a time only once.
@@ -15,16 +15,16 @@ tests() {
     if cargo clippy --version >/dev/null 2>&1; then
         CARGO_TARGET_DIR=$checks MUTANTS=1 cargo clippy --workspace --all-targets --quiet -- --deny warnings || return
     fi
-    CARGO_TARGET_DIR=$checks cargo test --quiet && compare 1
+    CARGO_TARGET_DIR=$checks cargo test --quiet && compare 1 350000
 }
 
 cargo fmt --all --check
 
 # Two lanes, one for each processor: the mistakes are built and tried beside the
-# tests, and each lane makes half of the comparison.
+# tests, and each lane makes as much of the comparison as lets both end together.
 said=$(mktemp)
 trap 'rm -f "$said"' EXIT
-{ cargo run --release --quiet --package mutants && compare 2; } >"$said" 2>&1 &
+{ cargo run --release --quiet --package mutants && compare 2 150000; } >"$said" 2>&1 &
 mistakes=$!
 status=0
 tests || status=1

@@ -20,7 +20,7 @@ const HEAD: usize = 2_048;
 const SOURCES: u64 = 300;
 
 /// The typical file of the program's manual.
-const TYPICAL: &[u8] = include_bytes!("../../../crates/typical/data/typical");
+const TYPICAL: &[u8] = include_bytes!("../../../crates/boundaries/data/typical");
 
 #[test]
 fn records_are_those_of_tinydns_data() {
