@@ -1,17 +1,7 @@
 // The program's arguments.
-ghost use mathlib.Core.Path.{_≡_};
-ghost use Rattle.rules.specs.Fields.{numberOf, largestLong};
 ghost use Rattle.files.specs.Fronts.{IsFront};
-ghost use Rattle.console.specs.Serials.{serialRead};
 use files::files::Front;
 use libc::STDERR_FILENO;
-use numbers::numbers::NumberRead;
-use numbers::numbers::number;
-
-pub enum SerialRead {
-    Good(u32),
-    Bad,
-}
 
 // Says which argument is missing, or too long for the room.
 fn refuse_argument(i: usize, room: usize) {
@@ -35,20 +25,4 @@ pub fn argument(i: usize, buf: &mut [u8]) -> Front
         };
     }
     Front { whole: true, len }
-}
-
-// A serial: a decimal number of 32 bits. Where the text is none, standard error says so.
-pub fn serial(text: &[u8]) -> SerialRead
-    ensures { λ r. ⌜ serialRead r ≡ numberOf largestLong (now (text .entry)) ⌝ }
-{
-    match number(text, 4294967295) {
-        NumberRead::Good(value) => SerialRead::Good(value as u32),
-        NumberRead::Bad => {
-            io::write_all(
-                STDERR_FILENO,
-                b"SERIAL is not a decimal number up to 4294967295\n",
-            );
-            SerialRead::Bad
-        },
-    }
 }

@@ -5,16 +5,17 @@ mod compiled;
 mod print;
 mod reports;
 mod room;
+mod serials;
 
 use compiled::compile_file;
-use console::arguments::SerialRead;
 use console::arguments::argument;
-use console::arguments::serial;
 use files::files::read_file;
 use libc::STDERR_FILENO;
 use pieces::pieces::piece_end;
 use print::print_answers;
 use room::records_buffer;
+use serials::SerialRead;
+use serials::serial;
 
 // Each line of the questions, until standard output takes no more.
 fn ask_lines(records: &[u8], path: &[u8], text: &[u8]) {

@@ -1,6 +1,6 @@
-use Rattle.console.proofs.Serials.{serial·laws}
-use Rattle.console.proofs.arguments.serial.Statement.{statement}
-use Rattle.console.proofs.arguments.serial.Tie as tie
+use Rattle.lookup.proofs.Given.{serial·laws}
+use Rattle.lookup.proofs.serials.serial.Statement.{statement}
+use Rattle.lookup.proofs.serials.serial.Tie as tie
 
 number-requires : tie.Need-number-requires
 number-requires c κs = search serial·laws
