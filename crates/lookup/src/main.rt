@@ -6,6 +6,7 @@ mod print;
 mod reports;
 mod room;
 mod serials;
+mod words;
 
 use compiled::compile_file;
 use console::arguments::argument;

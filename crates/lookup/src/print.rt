@@ -2,6 +2,7 @@
 ghost use Prim.Native.Nat.{_+_, _≤_};
 ghost use lib.ListN.{length};
 ghost use Rattle.questions.specs.Places.{Inside};
+use crate::words::print_words;
 use hexadecimal::hex::print_hex;
 use libc::STDERR_FILENO;
 use libc::STDOUT_FILENO;
@@ -10,7 +11,6 @@ use questions::questions::answer_line;
 use refusals::replies::reply_number;
 use rules::quantities::Ttl;
 use rules::replies::Reply;
-use words::words::print_words;
 
 // What came of printing a record: more may follow, or none can, or standard output didn't take all.
 enum Printed {

@@ -1,8 +1,8 @@
 // A refused source, as a line of standard error.
+use crate::words::print_words;
 use libc::STDERR_FILENO;
 use refusals::faults::number;
 use rules::faults::Answer;
-use words::words::print_words;
 
 // The place: path, line and field.
 fn print_place(path: &[u8], line: u64, field: u64) {

@@ -2,6 +2,7 @@
 
 #![allow(dead_code)]
 
+use std::ffi::OsStr;
 use std::fs;
 use std::path::{Path, PathBuf};
 use std::process::Command;
@@ -51,11 +52,16 @@ impl Folder {
 
     /// Runs the command with these words, in the folder.
     pub fn run(&self, words: &[&str]) -> Run {
-        let output = Command::new(env!("CARGO_BIN_EXE_vahmizar"))
+        self.run_program(env!("CARGO_BIN_EXE_vahmizar"), words)
+    }
+
+    /// Runs any program so.
+    pub fn run_program(&self, program: impl AsRef<OsStr>, words: &[&str]) -> Run {
+        let output = Command::new(program)
             .args(words)
             .current_dir(&self.path)
             .output()
-            .expect("the command starts");
+            .expect("the program starts");
         Run {
             status: output.status.code().expect("no signal"),
             out: String::from_utf8(output.stdout).unwrap(),

@@ -4,16 +4,16 @@ use Rattle.lookup.proofs.print.print_answer.Statement.{statement}
 use Rattle.lookup.proofs.print.print_answer.Tie as tie
 
 answer-line-requires : tie.Need-answer-line-requires
-answer-line-requires c κs = search (answered-inside, needs)
+answer-line-requires c κs = search needs
 
 enum-known-reply : tie.Need-enum-known-reply
 enum-known-reply c = search (answered-inside, needs)
 
 print-question-requires : tie.Need-print-question-requires
-print-question-requires c κs = search (answered-inside, needs)
+print-question-requires c κs = search needs
 
 returns : tie.Need-returns
-returns c = search (answered-inside, needs)
+returns c = search needs
 
 print-reply-requires : tie.Need-print-reply-requires
 print-reply-requires c κs = search (answered-inside, needs)
@@ -22,13 +22,13 @@ enum-told : tie.Need-enum-told
 enum-told c = search (answered-inside, needs)
 
 refuse-line-requires : tie.Need-refuse-line-requires
-refuse-line-requires c κs = search (answered-inside, needs)
+refuse-line-requires c κs = search needs
 
 returns-2 : tie.Need-returns-2
-returns-2 c = search (answered-inside, needs)
+returns-2 c = search needs
 
 returns-3 : tie.Need-returns-3
-returns-3 c = search (answered-inside, needs)
+returns-3 c = search needs
 
 pub print-answer-spec : {M : Type 1} → statement M
 print-answer-spec =

@@ -10,37 +10,37 @@ print-record-requires : tie.Need-print-record-requires
 print-record-requires c κs = search (found-inside, needs)
 
 returns : tie.Need-returns
-returns c = search (found-inside, needs)
+returns c = search needs
 
 enum-told : tie.Need-enum-told
 enum-told c = search (found-inside, needs)
 
 print-none-requires : tie.Need-print-none-requires
-print-none-requires c κs = search (found-inside, needs)
+print-none-requires c κs = search needs
 
 last-requires : tie.Need-last-requires
-last-requires c κs = search (found-inside, needs)
+last-requires c κs = search needs
 
 enum-told-2 : tie.Need-enum-told-2
 enum-told-2 c = search (found-inside, needs)
 
 reply-number-requires : tie.Need-reply-number-requires
-reply-number-requires c κs = search (found-inside, needs)
+reply-number-requires c κs = search needs
 
 print-refusal-requires : tie.Need-print-refusal-requires
-print-refusal-requires c κs = search (found-inside, needs)
+print-refusal-requires c κs = search needs
 
 last-requires-2 : tie.Need-last-requires-2
-last-requires-2 c κs = search (found-inside, needs)
+last-requires-2 c κs = search needs
 
 returns-2 : tie.Need-returns-2
-returns-2 c = search (found-inside, needs)
+returns-2 c = search needs
 
 returns-3 : tie.Need-returns-3
-returns-3 c = search (found-inside, needs)
+returns-3 c = search needs
 
 returns-4 : tie.Need-returns-4
-returns-4 c = search (found-inside, needs)
+returns-4 c = search needs
 
 pub print-reply-spec : {M : Type 1} → statement M
 print-reply-spec =

@@ -1,2 +1,0 @@
-// The words of an answer's number, as text and printed.
-pub mod words;
