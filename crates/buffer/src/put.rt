@@ -1,6 +1,6 @@
 // Writers: bytes put at the front of the buffer that is lent; what is behind them stays. Each answers how many it put.
 ghost use mathlib.Core.Path.{_≡_};
-ghost use mathlib.Core.List.{[], _∷_, map};
+ghost use mathlib.Core.List.{map};
 ghost use Prim.Native.Nat.{_≤_};
 ghost use lib.ListN.{length};
 ghost use Rattle.rules.specs.Lists.{lower};
@@ -8,25 +8,6 @@ ghost use Rattle.letters.specs.Letters.{Lowers};
 ghost use Rattle.buffer.specs.Put.{IsPut};
 use letters::letters::letter_table;
 use letters::letters::lowered_by;
-
-pub fn put_byte(out: &mut [u8], b: u8) -> usize
-    requires { ⌜ 1 ≤ length (now out) ⌝ }
-    ensures { λ r. ⌜ IsPut (b ∷ []) (now (out .entry)) (now (out .exit)) r ⌝ }
-    ensures { λ r. ⌜ r ≡ 1 ⌝ }
-{
-    out[0] = b;
-    1
-}
-
-pub fn put_two(out: &mut [u8], first: u8, second: u8) -> usize
-    requires { ⌜ 2 ≤ length (now out) ⌝ }
-    ensures { λ r. ⌜ IsPut (first ∷ second ∷ []) (now (out .entry)) (now (out .exit)) r ⌝ }
-    ensures { λ r. ⌜ r ≡ 2 ⌝ }
-{
-    out[0] = first;
-    out[1] = second;
-    2
-}
 
 pub fn put_bytes(out: &mut [u8], source: &[u8]) -> usize
     requires { ⌜ length (now source) ≤ length (now out) ⌝ }

@@ -8,9 +8,8 @@ ghost use Rattle.rules.specs.Records.{loBytes};
 ghost use Rattle.rules.specs.Bytes.{wild, flagAndLo};
 ghost use Rattle.buffer.specs.Put.{IsPut};
 ghost use Rattle.heads.specs.Head.{ownerKey, keySize, flagOf, fixedFields, fixedSize, headOf, headSize};
-use buffer::put::put_byte;
+use buffer::put::put_bytes;
 use buffer::put::put_lowered;
-use buffer::put::put_two;
 use integers::integers::put_le;
 use integers::integers::put_u16;
 use integers::integers::put_u32;
@@ -63,7 +62,7 @@ pub(crate) fn put_lo(out: &mut [u8], lo: Lo) -> usize
 {
     match lo {
         Lo::Every => 0,
-        Lo::Code(first, second) => put_two(out, first, second),
+        Lo::Code(first, second) => put_bytes(out, &[first, second]),
     }
 }
 
@@ -92,7 +91,7 @@ fn put_flag(out: &mut [u8], wild: bool, lo: Lo) -> usize
     ensures { λ r. ⌜ IsPut (flagAndLo wild (loBytes lo)) (now (out .entry)) (now (out .exit)) r ⌝ }
     ensures { λ r. ⌜ r ≡ 1 + length (loBytes lo) ⌝ }
 {
-    let used = put_byte(out, flag(wild, lo));
+    let used = put_bytes(out, &[flag(wild, lo)]);
     used + put_lo(&mut out[used..], lo)
 }
 

@@ -10,7 +10,6 @@ use crate::heads::lo_size;
 use crate::heads::put_lengths;
 use crate::heads::put_lo;
 use buffer::put::put_bytes;
-use buffer::put::put_two;
 use rules::quantities::Lo;
 
 // The key: 0, `%`, the prefix.
@@ -19,7 +18,7 @@ fn put_prefix_key(out: &mut [u8], prefix: &[u8]) -> usize
     ensures { λ r. ⌜ IsPut (0 ∷ 37 ∷ now (prefix .entry)) (now (out .entry)) (now (out .exit)) r ⌝ }
     ensures { λ r. ⌜ r ≡ 2 + length (now (prefix .entry)) ⌝ }
 {
-    let used = put_two(out, 0, b'%');
+    let used = put_bytes(out, b"\x00%");
     used + put_bytes(&mut out[used..], prefix)
 }
 

@@ -8,7 +8,6 @@ ghost use Rattle.buffer.specs.Put.{IsPut};
 ghost use Rattle.txt.specs.Chunks.{chunkSize};
 ghost use Rattle.rules.specs.Bytes.{encode};
 ghost use Rattle.heads.specs.Head.{headSize};
-use buffer::put::put_byte;
 use buffer::put::put_bytes;
 use heads::heads::put_head;
 use rules::quantities::Shared;
@@ -32,7 +31,7 @@ fn put_chunk(out: &mut [u8], chunk: &[u8]) -> usize
     ensures { λ r. ⌜ IsPut (length (now (chunk .entry)) ∷ now (chunk .entry)) (now (out .entry)) (now (out .exit)) r ⌝ }
     ensures { λ r. ⌜ r ≡ 1 + length (now (chunk .entry)) ⌝ }
 {
-    let used = put_byte(out, chunk.len() as u8);
+    let used = put_bytes(out, &[chunk.len() as u8]);
     used + put_bytes(&mut out[used..], chunk)
 }
 

@@ -1,14 +1,17 @@
-use borrow.Author.Needs.{needs}
 use Rattle.buffer.proofs.Puts.{put·laws}
 use Rattle.heads.proofs.Head.{flag-lo}
+use borrow.Author.Needs.{needs}
 use Rattle.heads.proofs.heads.put_flag.Statement.{statement}
 use Rattle.heads.proofs.heads.put_flag.Tie as tie
 
 flag-requires : tie.Need-flag-requires
 flag-requires c κs = search needs
 
-put-byte-requires : tie.Need-put-byte-requires
-put-byte-requires c κs = search needs
+slice-aggregate-put-bytes : tie.Need-slice-aggregate-put-bytes
+slice-aggregate-put-bytes c = search needs
+
+put-bytes-requires : tie.Need-put-bytes-requires
+put-bytes-requires c κs = search needs
 
 sub-put-lo : tie.Need-sub-put-lo
 sub-put-lo c = search needs
@@ -36,7 +39,8 @@ put-flag-spec =
     tie.close
     (tie.spec
     flag-requires
-    put-byte-requires
+    slice-aggregate-put-bytes
+    put-bytes-requires
     sub-put-lo
     part-put-lo-start
     part-put-lo-end

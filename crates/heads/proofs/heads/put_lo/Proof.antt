@@ -8,8 +8,11 @@ enum-told c = search lo·laws
 enum-known-lo : tie.Need-enum-known-lo
 enum-known-lo c = search lo·laws
 
-put-two-requires : tie.Need-put-two-requires
-put-two-requires c κs = search lo·laws
+slice-aggregate-put-bytes : tie.Need-slice-aggregate-put-bytes
+slice-aggregate-put-bytes c = search lo·laws
+
+put-bytes-requires : tie.Need-put-bytes-requires
+put-bytes-requires c κs = search lo·laws
 
 returns : tie.Need-returns
 returns c = search lo·laws
@@ -22,4 +25,12 @@ returns-2 c = search lo·laws
 
 pub put-lo-spec : {M : Type 1} → statement M
 put-lo-spec =
-    tie.close (tie.spec enum-told enum-known-lo put-two-requires returns same-length returns-2)
+    tie.close
+    (tie.spec
+    enum-told
+    enum-known-lo
+    slice-aggregate-put-bytes
+    put-bytes-requires
+    returns
+    same-length
+    returns-2)

@@ -1,10 +1,13 @@
-use borrow.Author.Needs.{needs}
 use Rattle.buffer.proofs.Puts.{put·laws}
+use borrow.Author.Needs.{needs}
 use Rattle.heads.proofs.locations.put_prefix_key.Statement.{statement}
 use Rattle.heads.proofs.locations.put_prefix_key.Tie as tie
 
-put-two-requires : tie.Need-put-two-requires
-put-two-requires c κs = search needs
+slice-aggregate-put-bytes : tie.Need-slice-aggregate-put-bytes
+slice-aggregate-put-bytes c = search needs
+
+put-bytes-requires : tie.Need-put-bytes-requires
+put-bytes-requires c κs = search needs
 
 sub-put-bytes : tie.Need-sub-put-bytes
 sub-put-bytes c = search needs
@@ -15,8 +18,8 @@ part-put-bytes-start c = search needs
 part-put-bytes-end : tie.Need-part-put-bytes-end
 part-put-bytes-end c = search needs
 
-put-bytes-requires : tie.Need-put-bytes-requires
-put-bytes-requires c κs = search needs
+put-bytes-requires-2 : tie.Need-put-bytes-requires-2
+put-bytes-requires-2 c κs = search needs
 
 add-result : tie.Need-add-result
 add-result c = search needs
@@ -31,11 +34,12 @@ pub put-prefix-key-spec : {M : Type 1} → statement M
 put-prefix-key-spec =
     tie.close
     (tie.spec
-    put-two-requires
+    slice-aggregate-put-bytes
+    put-bytes-requires
     sub-put-bytes
     part-put-bytes-start
     part-put-bytes-end
-    put-bytes-requires
+    put-bytes-requires-2
     add-result
     same-length
     returns)
