@@ -19,13 +19,15 @@ use Rattle.rules.specs.declared.faults.Fault.{Fault}
 use Rattle.rules.specs.declared.faults.LineFault.{LineFault}
 use Rattle.rules.specs.declared.kinds.Kind.{Kind}
 use Rattle.rules.specs.declared.kinds.Meaning.{Meaning}
-use Rattle.rows.specs.Rows.{meaningOf, codes, rowOf}
+use Rattle.rows.specs.Rows.{codes, rowOf}
 use Rattle.splits.specs.Splits.{FieldsOf, IsSplit}
 use Rattle.kinds.specs.Strips.{IsStripped}
 use Rattle.rows.specs.declared.rows.Row.{Row}
 use Rattle.splits.specs.declared.splits.Fields.{Fields}
 use Rattle.kinds.proofs.Stripping.{parted-line}
-use Rattle.rows.proofs.Table.{codes-mean, count-most}
+use Rattle.rows.proofs.Table.{count-most}
+use Rattle.lines.specs.Meanings.{meaningOf}
+use Rattle.lines.proofs.Coded.{codes-mean}
 
 -- ---- one field
 
