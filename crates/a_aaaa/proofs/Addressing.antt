@@ -3,7 +3,6 @@ use mathlib.Core.Path.{_≡_, refl, ap, sym}
 use mathlib.Core.List.{List, [], _∷_, append-nil}
 use Prim.Native.Nat.{ℕ, _+_, _≤_}
 use native.Mathlib.Omega.{arith}
-use borrow.Author.Needs.{needs}
 use borrow.Author.Tests.{eq-eqb, ne-eqb}
 use lib.Dec.{eqb}
 use lib.ListN.{length, take}
@@ -49,5 +48,3 @@ four n e = rw (eq-eqb n 4 e)
 pub sixteen : (n : ℕ) → (n ≡ 4 → ⊥) → _≡_ {A = ℕ} 28 (pick (eqb n 4) 1 28)
 unfolding pick
 sixteen n e = rw (ne-eqb n 4 e)
-
-pub ruleset address·laws = (needs, no-address, address-put, address-room)

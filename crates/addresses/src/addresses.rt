@@ -1,7 +1,7 @@
 // ip and prefix.
 ghost use Rattle.rules.specs.Fields.{addressOf, prefixOf};
 ghost use Rattle.addresses.specs.Addresses.{dottedAddress, groupedAddress, IsAddress, IsPrefix};
-use groups::groups::address_bytes;
+use crate::groups_bytes::address_bytes;
 use groups::groups::groups;
 use octets::octets::octets;
 use pieces::pieces::has_byte;

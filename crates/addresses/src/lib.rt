@@ -1,2 +1,3 @@
 // Addresses and prefixes.
 pub mod addresses;
+mod groups_bytes;

@@ -4,7 +4,6 @@ use mathlib.Core.Bool.{true}
 use mathlib.Core.List.{List}
 use Prim.Native.Nat.{ℕ, _+_, _≤_}
 use native.Mathlib.Omega.{arith}
-use borrow.Author.Needs.{needs}
 use lib.ListN.{length, take}
 use Rattle.rules.specs.Lists.{splitOn}
 use Rattle.rules.specs.Kinds.{common, meanings, fieldCount, fieldAt}
@@ -20,12 +19,10 @@ use Rattle.splits.specs.declared.splits.Span.{Span}
 use Rattle.soa.proofs.SoaData.{soa-length}
 use Rattle.soa.specs.declared.soa.SoaNumbers.{SoaNumbers}
 use Rattle.heads.specs.Head.{headSize}
-use Rattle.wire.proofs.Parts.{front-count}
 use Rattle.names.specs.Held.{heldName, IsName}
 use Rattle.names.specs.declared.names.Name.{Name}
-use Rattle.names.proofs.Holding.{name-within, name-count, held-short, held-long}
 use Rattle.values.specs.Ready.{Ready}
-use Rattle.values.proofs.Readiness.{ready-fields, owner-named, needed-named, done}
+use Rattle.values.proofs.Readiness.{needed-named, done}
 use Rattle.records.proofs.Sequence.{record-room, one}
 
 -- ---- the SOA record
@@ -53,8 +50,6 @@ module _ (s : List ℕ) (shared : Shared) (owner mname rname : Name) (numbers : 
       → IsPut (encode (resourceOf shared (take (owner .len) (owner .bytes)) 6 (soaOf (take (mname .len) (mname .bytes)) (take (rname .len) (rname .bytes)) numbers))) d e r
       → IsPut (encode (resourceOf shared (heldName owner) 6 (soaOf (wireOf (fieldAt (splitOn 58 s) 1)) (wireOf (fieldAt (splitOn 58 s) 2)) numbers))) d e r
   soa-put d e r p = rw (← soa-is) p
-
-pub ruleset soa·laws = (needs, front-count, name-within, name-count, soa-room, soa-put)
 
 -- ---- an authority line
 
@@ -95,5 +90,3 @@ module _ (serial : ℕ) (s : List ℕ) (shared : Shared) (owner : Name) (numbers
       → IsPut (encode (resourceOf shared (heldName owner) 6 (soaOf (wireOf (fieldAt (splitOn 58 s) 1)) (wireOf (fieldAt (splitOn 58 s) 2)) numbers))) d e r
       → IsPut (bytesOf (recordsOf serial Kind.Authority (splitOn 58 s))) d e r
   authority-put d e r p = rw (← authority-is) p
-
-pub ruleset authority·laws = (needs, ready-fields, owner-named, held-short, held-long, mname-named, rname-named, authority-fields, authority-room, authority-put)

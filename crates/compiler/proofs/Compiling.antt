@@ -4,7 +4,6 @@ use mathlib.Core.Bool.{Bool, true, false, not}
 use mathlib.Core.List.{List, _++_}
 use Prim.Native.Nat.{ℕ, _<_, _≤_}
 use native.Mathlib.Omega.{arith}
-use borrow.Author.Needs.{needs}
 use borrow.Author.Tests.{lt-ltb, le-ltb, le-leb, lt-leb, not-true, not-false}
 use lib.ListN.{length, drop}
 use Rattle.rules.specs.Lists.{pick, all}
@@ -95,5 +94,3 @@ module _ (s : List ℕ) (serial : ℕ) (d : List ℕ) where
             let a : record { fault = Fault.Done; line = 0; field = 0; bytes = r } ≡ compileAnswer s serial (length d) =
             done-with r (needed ∙ sym (p .count ∙ length-bytes (sourceRecords serial s))) in
             record { answer = a; output = p .holds ∙ filled s serial d _ a (unfold isDone in refl) }
-
-pub ruleset compile·laws = (needs, source-long, refused, all-good, no-room, bytes-fit, compiled)

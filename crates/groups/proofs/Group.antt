@@ -16,7 +16,6 @@ use Rattle.rules.specs.Fields.{digit, lowerHexDigit, hexValue, hexFrom, group}
 use Rattle.numbers.specs.Views.{hexOr}
 use Rattle.numbers.specs.declared.numbers.NumberRead.{NumberRead}
 use Rattle.octets.specs.Octets.{IsPiece}
-use Rattle.octets.proofs.Taken.{not-good}
 use Rattle.numbers.proofs.HexDigit.{Hex, begin, taken, refused, all-good, all-worth, is-digit, no-digit, more-digits, times-fits, more-fits}
 
 abbrev pub anyCase : ℕ → Bool
@@ -80,4 +79,4 @@ four-times i v n h k m = times-fits i v n h k (omega arith)
 pub four-more : (i v d n : ℕ) → v < 16 ^ i → i < n → n ≤ 4 → d < 16 → Fits w64 (v * 16 + d)
 four-more i v d n h k m e = more-fits i v n d h k (omega arith) e
 
-pub ruleset group·laws = (begin, empty, long, turn, bad-digit, good, more-digits, four-times, four-more, not-good, needs)
+pub ruleset group·laws = (begin, turn, more-digits, needs)

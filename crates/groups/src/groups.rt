@@ -1,8 +1,7 @@
 // IPv6: eight groups of 1 to 4 hexadecimal digits joined by underscores.
-ghost use mathlib.Core.Path.{_≡_};
 ghost use Rattle.rules.specs.Fields.{hexFrom, group};
 ghost use Rattle.octets.specs.Octets.{IsPiece};
-ghost use Rattle.groups.specs.Groups.{groupsBytes, IsGroups};
+ghost use Rattle.groups.specs.Groups.{IsGroups};
 use numbers::hex::hex_digit;
 use numbers::numbers::NumberRead;
 use pieces::pieces::piece_end;
@@ -70,19 +69,4 @@ pub fn groups(text: &[u8]) -> GroupsRead
         groups,
         good: count == 8,
     }
-}
-
-// Each group as two bytes, the high one first.
-pub fn address_bytes(groups: [u16; 8]) -> [u8; 16]
-    ensures { λ r. ⌜ r ≡ groupsBytes groups ⌝ }
-{
-    let mut bytes = [0u8; 16];
-    let mut i: usize = 0;
-    while i < 8 {
-        let g = groups[i];
-        bytes[2 * i] = (g / 256 % 256) as u8;
-        bytes[2 * i + 1] = (g % 256) as u8;
-        i += 1;
-    }
-    bytes
 }

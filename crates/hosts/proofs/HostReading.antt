@@ -4,7 +4,6 @@ use mathlib.Core.Bool.{true, false, true≢false}
 use mathlib.Core.List.{List, [], _∷_}
 use Prim.Native.Nat.{ℕ, _≤_}
 use native.Mathlib.Omega.{arith}
-use borrow.Author.Needs.{needs}
 use lib.Dec.{T}
 use lib.ListN.{length, take}
 use Rattle.rules.specs.Lists.{splitOn, has}
@@ -18,7 +17,6 @@ use Rattle.rules.specs.declared.kinds.Meaning.{Meaning}
 use Rattle.rules.specs.declared.quantities.Shared.{Shared}
 use Rattle.rules.proofs.Lists.{all-head}
 use Rattle.rules.proofs.Fields.{host-label}
-use Rattle.wire.proofs.Parts.{front-count}
 use Rattle.names.specs.Views.{isNamed}
 use Rattle.addresses.specs.Addresses.{IsAddress}
 use Rattle.addresses.specs.declared.addresses.AddressRead.{AddressRead}
@@ -30,8 +28,7 @@ use Rattle.given.specs.Given.{HostGood}
 use Rattle.addresses.specs.HeldAddress.{heldAddress, IsHeld}
 use Rattle.hosts.specs.HostLines.{middleOf, namesHost, IsHostLine}
 use Rattle.addresses.proofs.HoldingAddress.{held-address, is-held}
-use Rattle.names.proofs.Holding.{held-short, held-long}
-use Rattle.values.proofs.Readiness.{named-done, ready-fields, done, joined-short, owner-named}
+use Rattle.values.proofs.Readiness.{named-done, done, joined-short}
 
 -- ---- values of a field by its text
 
@@ -42,8 +39,6 @@ module _ (s t : List ℕ) (i : ℕ) (e : t ≡ fieldAt (splitOn 58 s) i) where
   pub name-held : (r : Name) → IsName (wireOf t) r → IsName (wireOf (fieldAt (splitOn 58 s) i)) r
   name-held r h = rw (← e) h
 
-pub ruleset name-at·laws = (needs, text-named, name-held)
-
 module _ (s t : List ℕ) (e : t ≡ fieldAt (splitOn 58 s) 1) (r : AddressRead) (p : IsAddress (addressOf t) r) where
   pub address-says : heldAddress r ≡ addressIn (fieldAt (splitOn 58 s) 1)
   address-says = held-address t r p ∙ ap addressIn e
@@ -51,39 +46,35 @@ module _ (s t : List ℕ) (e : t ≡ fieldAt (splitOn 58 s) 1) (r : AddressRead)
   pub address-held : IsHeld r
   address-held = is-held t r p
 
-pub ruleset address-of·laws = (needs, address-says, address-held)
-
-module _ (s t middle : List ℕ) (owner : Name) (e : t ≡ fieldAt (splitOn 58 s) 2) where
-  pub host-good : HostGood (heldName owner) (fieldAt (splitOn 58 s) 2) middle → HostGood (take (owner .len) (owner .bytes)) t middle
+module _ (s t middle owner : List ℕ) (e : t ≡ fieldAt (splitOn 58 s) 2) where
+  pub host-good : HostGood owner (fieldAt (splitOn 58 s) 2) middle → HostGood owner t middle
   host-good h = rw e h
 
-  pub host-held : (r : Name) → IsName (hostName middle (take (owner .len) (owner .bytes)) t) r → IsName (hostName middle (heldName owner) (fieldAt (splitOn 58 s) 2)) r
+  pub host-held : (r : Name) → IsName (hostName middle owner t) r → IsName (hostName middle owner (fieldAt (splitOn 58 s) 2)) r
   host-held r h = rw (← e) h
-
-pub ruleset host-of·laws = (needs, front-count, host-good, host-held)
 
 -- ---- a line that is ready
 
 host-short : (t : List ℕ) → T (isDone (faultOf Meaning.HostPart t)) → has 46 t ≡ false → length t ≤ 63
 host-short t d e = host-label t d (rw e tt)
 
-module _ (s : List ℕ) (spans : List Span) where
-  pub host-count : (kind : Kind) → namesHost kind ≡ true → 3 ≤ fieldCount kind
-  unfolding meanings common fieldCount
-  host-count Kind.Location h = absurd (true≢false (sym h))
-  host-count Kind.Zone h = omega arith
-  host-count Kind.Delegation h = omega arith
-  host-count Kind.Host h = omega arith
-  host-count Kind.Alias h = omega arith
-  host-count Kind.Mail h = omega arith
-  host-count Kind.Service h = omega arith
-  host-count Kind.Text h = omega arith
-  host-count Kind.Pointer h = omega arith
-  host-count Kind.Canonical h = omega arith
-  host-count Kind.Authority h = omega arith
-  host-count Kind.Generic h = omega arith
-  host-count Kind.Unknown h = absurd (true≢false (sym h))
+pub host-count : (kind : Kind) → namesHost kind ≡ true → 3 ≤ fieldCount kind
+unfolding meanings common fieldCount
+host-count Kind.Location h = absurd (true≢false (sym h))
+host-count Kind.Zone h = omega arith
+host-count Kind.Delegation h = omega arith
+host-count Kind.Host h = omega arith
+host-count Kind.Alias h = omega arith
+host-count Kind.Mail h = omega arith
+host-count Kind.Service h = omega arith
+host-count Kind.Text h = omega arith
+host-count Kind.Pointer h = omega arith
+host-count Kind.Canonical h = omega arith
+host-count Kind.Authority h = omega arith
+host-count Kind.Generic h = omega arith
+host-count Kind.Unknown h = absurd (true≢false (sym h))
 
+module _ (s : List ℕ) (spans : List Span) where
   host-ok : (kind : Kind) → Ready kind s spans → namesHost kind ≡ true → HostGood (wireOf (fieldAt (splitOn 58 s) 0)) (fieldAt (splitOn 58 s) 2) (middleOf kind)
   unfolding meanings common joinedNames middleOf ns mx srv faultOf
   host-ok Kind.Location r h = absurd (true≢false (sym h))
@@ -108,11 +99,9 @@ module _ (s : List ℕ) (spans : List Span) where
       → HostGood (heldName owner) (fieldAt (splitOn 58 s) 2) middle
   host-ready kind middle r h e owner n = rw (e, n .held) (host-ok kind r h)
 
-  pub line-read : (kind : Kind) (middle : List ℕ) (shared : Shared) (owner host : Name) (address : AddressRead) → middle ≡ middleOf kind → shared ≡ sharedOf kind (splitOn 58 s)
-      → IsName (wireOf (fieldAt (splitOn 58 s) 0)) owner → IsName (hostName middle (heldName owner) (fieldAt (splitOn 58 s) 2)) host
-      → (heldAddress address ≡ addressIn (fieldAt (splitOn 58 s) 1)) × IsHeld address
-      → IsHostLine kind s (record { shared = shared; owner = owner; host = host; address = address })
-  line-read kind middle shared owner host address m a b c d =
-      record { shared = a; owner = b; host = rw (← m, ← (b .held)) c; address = d .0; held = d .1 }
-
-pub ruleset host-line·laws = (needs, ready-fields, owner-named, host-count, host-ready, held-short, held-long, line-read)
+pub line-read : (s : List ℕ) (kind : Kind) (middle : List ℕ) (shared : Shared) (owner host : Name) (address : AddressRead) → middle ≡ middleOf kind → shared ≡ sharedOf kind (splitOn 58 s)
+    → IsName (wireOf (fieldAt (splitOn 58 s) 0)) owner → IsName (hostName middle (heldName owner) (fieldAt (splitOn 58 s) 2)) host
+    → (heldAddress address ≡ addressIn (fieldAt (splitOn 58 s) 1)) × IsHeld address
+    → IsHostLine kind s (record { shared = shared; owner = owner; host = host; address = address })
+line-read s kind middle shared owner host address m a b c d =
+    record { shared = a; owner = b; host = rw (← m, ← (b .held)) c; address = d .0; held = d .1 }

@@ -19,13 +19,15 @@ use Rattle.rules.specs.declared.faults.Fault.{Fault}
 use Rattle.rules.specs.declared.faults.LineFault.{LineFault}
 use Rattle.rules.specs.declared.kinds.Kind.{Kind}
 use Rattle.rules.specs.declared.kinds.Meaning.{Meaning}
-use Rattle.rows.specs.Rows.{meaningOf, codes, rowOf}
+use Rattle.rows.specs.Rows.{codes, rowOf}
 use Rattle.splits.specs.Splits.{FieldsOf, IsSplit}
 use Rattle.kinds.specs.Strips.{IsStripped}
 use Rattle.rows.specs.declared.rows.Row.{Row}
 use Rattle.splits.specs.declared.splits.Fields.{Fields}
 use Rattle.kinds.proofs.Stripping.{parted-line}
-use Rattle.rows.proofs.Table.{codes-mean, count-most}
+use Rattle.rows.proofs.Table.{count-most}
+use Rattle.lines.specs.Meanings.{meaningOf}
+use Rattle.lines.proofs.Coded.{codes-mean}
 
 -- ---- one field
 
@@ -110,8 +112,6 @@ module _ (s : List ℕ) (kind : Kind) (fields : Fields) (p : IsSplit s kind fiel
       unfolding pick
       joined-last r t q = q ∙ sym (enough ∙ rw t)
 
-pub ruleset kind·laws = (needs, row-most, unknown, too-many, spans-of, field-first, joined-last)
-
 module _ (line : List ℕ) where
   pub too-long : 1024 < length line → record { fault = Fault.LineTooLong; field = 0 } ≡ lineFault line
   unfolding lineFault wholeLine longestLine pick
@@ -137,5 +137,3 @@ module _ (line : List ℕ) where
       pub of-kind : (t : Bool) (k : Kind) (r : LineFault) → t ≡ ignored (getD line 0 0) → t ≡ false → k ≡ kindOf (getD line 0 0) → r ≡ kindFault k (splitOn 58 (take (n - 1) (drop 1 line))) → r ≡ lineFault line
       unfolding strippedFault pick
       of-kind t k r e q d f = f ∙ sym (stripped-is ∙ rw (parted, ← e, q, ← d))
-
-pub ruleset line·laws = (needs, too-long, nothing-left, comment, of-kind)

@@ -1,2 +1,3 @@
 // The first fault of a line.
 pub mod judge;
+mod meanings;

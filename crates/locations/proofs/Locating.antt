@@ -5,7 +5,6 @@ use mathlib.Core.List.{List, []}
 use mathlib.Core.Option.{Option, none, some}
 use Prim.Native.Nat.{ℕ, _+_, _≤_}
 use native.Mathlib.Omega.{arith}
-use borrow.Author.Needs.{needs}
 use lib.Dec.{T}
 use lib.ListN.{length, take}
 use lib.Seq.{length-take-le}
@@ -24,7 +23,7 @@ use Rattle.addresses.specs.declared.addresses.PrefixRead.{PrefixRead}
 use Rattle.splits.specs.declared.splits.Span.{Span}
 use Rattle.heads.proofs.Whole.{encode-length, location-size}
 use Rattle.values.specs.Ready.{Ready}
-use Rattle.values.proofs.Readiness.{ready-fields, done}
+use Rattle.values.proofs.Readiness.{done}
 use Rattle.records.proofs.Sequence.{one}
 
 good-prefix : (o : Option (List ℕ)) → T (isDone (unless FieldKind.Address o)) → isSome o ≡ true
@@ -62,5 +61,3 @@ module _ (s t : List ℕ) (spans : List Span) (lo : Lo) (p : PrefixRead) (ready 
   pub location-put : (d f : List ℕ) (r : ℕ) → IsPut (encode (location (take (p .len) (p .bytes)) (loBytes lo))) d f r
       → IsPut (bytesOf (recordsOf 0 Kind.Location (splitOn 58 s))) d f r
   location-put d f r q = rw (← location-line) q
-
-pub ruleset location·laws = (needs, ready-fields, prefix-within, prefix-count, location-room, location-put)

@@ -1,1 +1,2 @@
+pub mod Exchanger
 pub mod MailRecords

@@ -1,2 +1,1 @@
-pub mod Exchanger
 pub mod Sequence

@@ -1,16 +1,13 @@
 // Resource records: a head, and the record data behind it.
 ghost use mathlib.Core.Path.{_≡_};
-ghost use mathlib.Core.List.{_++_};
 ghost use Prim.Native.Nat.{_+_, _≤_};
 ghost use lib.ListN.{length};
-ghost use Rattle.rules.specs.Lists.{be};
 ghost use Rattle.rules.specs.Records.{resourceOf};
 ghost use Rattle.rules.specs.Bytes.{encode};
 ghost use Rattle.buffer.specs.Put.{IsPut};
 ghost use Rattle.heads.specs.Head.{headSize};
 use buffer::put::put_bytes;
 use heads::heads::put_head;
-use integers::integers::put_u16;
 use rules::quantities::Shared;
 
 pub fn put_resource(out: &mut [u8], owner: &[u8], rtype: u16, shared: Shared, rdata: &[u8]) -> usize
@@ -20,14 +17,4 @@ pub fn put_resource(out: &mut [u8], owner: &[u8], rtype: u16, shared: Shared, rd
 {
     let used = put_head(out, owner, rtype, shared, rdata.len());
     used + put_bytes(&mut out[used..], rdata)
-}
-
-pub fn put_mx(out: &mut [u8], owner: &[u8], shared: Shared, dist: u16, host: &[u8]) -> usize
-    requires { ⌜ headSize shared (now owner) + (2 + length (now host)) ≤ length (now out) ⌝ }
-    ensures { λ r. ⌜ IsPut (encode (resourceOf shared (now (owner .entry)) 15 (be 2 dist ++ now (host .entry)))) (now (out .entry)) (now (out .exit)) r ⌝ }
-    ensures { λ r. ⌜ r ≡ headSize shared (now (owner .entry)) + (2 + length (now (host .entry))) ⌝ }
-{
-    let a = put_head(out, owner, 15, shared, 2 + host.len());
-    let b = a + put_u16(&mut out[a..], dist);
-    b + put_bytes(&mut out[b..], host)
 }

@@ -2,8 +2,6 @@
 use Prim.Native.Nat.{ℕ, _-_}
 use mathlib.Core.List.{List, [], _∷_, _++_, map}
 use lib.ListN.{replicate}
-use lib.Dec.{eqb}
-use Rattle.rules.specs.Lists.{pick}
 use Rattle.rules.specs.Kinds.{meanings, fieldCount, defaultTtl}
 use Rattle.rules.specs.declared.kinds.Kind.{Kind}
 use Rattle.rules.specs.declared.kinds.Meaning.{Meaning}
@@ -41,25 +39,6 @@ codeOf Meaning.Lo = 11
 codeOf Meaning.LocationLo = 12
 codeOf Meaning.Prefix = 13
 codeOf Meaning.Text = 14
-
--- the meaning that a code stands for
-unfoldable pub meaningOf : ℕ → Meaning
-meaningOf b =
-    pick (eqb b 0) Meaning.Owner
-    (pick (eqb b 1) Meaning.Target
-    (pick (eqb b 2) Meaning.HostPart
-    (pick (eqb b 3) Meaning.Address
-    (pick (eqb b 4) Meaning.OptionalAddress
-    (pick (eqb b 5) Meaning.Short
-    (pick (eqb b 6) Meaning.Long
-    (pick (eqb b 7) Meaning.Port
-    (pick (eqb b 8) Meaning.RecordType
-    (pick (eqb b 9) Meaning.Ttl
-    (pick (eqb b 10) Meaning.Time
-    (pick (eqb b 11) Meaning.Lo
-    (pick (eqb b 12) Meaning.LocationLo
-    (pick (eqb b 13) Meaning.Prefix
-    Meaning.Text)))))))))))))
 
 -- the codes of a kind's fields, and 15 where it has no more
 unfoldable pub codes : Kind → List ℕ

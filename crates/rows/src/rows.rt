@@ -1,9 +1,8 @@
 // The table by kind.
 ghost use mathlib.Core.Path.{_≡_};
 ghost use Prim.Native.Nat.{_<_};
-ghost use Rattle.rows.specs.Rows.{meaningOf, kindNumber, rowOf};
+ghost use Rattle.rows.specs.Rows.{kindNumber, rowOf};
 use rules::kinds::Kind;
-use rules::kinds::Meaning;
 
 // What the table has of a kind: how many fields, the default ttl, and a code for the meaning of each field.
 pub struct Row {
@@ -296,27 +295,4 @@ pub fn row_of(kind: Kind) -> Row
 {
     let number = kind_number(kind);
     TABLE[number]
-}
-
-// The meaning of a code; a code of no meaning reads as text.
-pub fn meaning_of(code: u8) -> Meaning
-    ensures { λ r. ⌜ r ≡ meaningOf code ⌝ }
-{
-    match code {
-        0 => Meaning::Owner,
-        1 => Meaning::Target,
-        2 => Meaning::HostPart,
-        3 => Meaning::Address,
-        4 => Meaning::OptionalAddress,
-        5 => Meaning::Short,
-        6 => Meaning::Long,
-        7 => Meaning::Port,
-        8 => Meaning::RecordType,
-        9 => Meaning::Ttl,
-        10 => Meaning::Time,
-        11 => Meaning::Lo,
-        12 => Meaning::LocationLo,
-        13 => Meaning::Prefix,
-        _ => Meaning::Text,
-    }
 }

@@ -27,9 +27,8 @@ use Rattle.splits.specs.declared.splits.Span.{Span}
 use Rattle.heads.specs.Head.{headSize}
 use Rattle.names.specs.Held.{IsName}
 use Rattle.names.specs.declared.names.Name.{Name}
-use Rattle.names.proofs.Holding.{name-within, name-count}
 use Rattle.values.specs.Ready.{Ready}
-use Rattle.values.proofs.Readiness.{ready-fields, owner-named, done, line-short}
+use Rattle.values.proofs.Readiness.{done}
 use Rattle.records.proofs.Sequence.{record-room, one}
 use Rattle.texts.specs.declared.texts.PlainText.{PlainText}
 
@@ -115,8 +114,6 @@ module _ (s : List ℕ) (shared : Shared) (owner : Name) (text : PlainText)
       → IsPut (bytesOf (recordsOf 0 Kind.Text (splitOn 58 s))) d e r
   text-put d e r p = rw (← text-is) p
 
-pub ruleset text-line·laws = (needs, ready-fields, owner-named, name-within, name-count, text-within, text-count, text-small, line-short, text-ready, text-fields, text-room, text-put)
-
 module _ (s : List ℕ) (shared : Shared) (owner : Name) (type : ℕ) (rdata : PlainText)
     (a : shared ≡ sharedOf Kind.Generic (splitOn 58 s)) (b : IsName (wireOf (fieldAt (splitOn 58 s) 0)) owner) (n : type ≡ shortAt (splitOn 58 s) 1)
     (t : take (rdata .len) (rdata .bytes) ≡ valueOr [] (textOf (fieldAt (splitOn 58 s) 2))) where
@@ -133,5 +130,3 @@ module _ (s : List ℕ) (shared : Shared) (owner : Name) (type : ℕ) (rdata : P
   pub generic-put : (d e : List ℕ) (r : ℕ) → IsPut (encode (resourceOf shared (take (owner .len) (owner .bytes)) type (take (rdata .len) (rdata .bytes)))) d e r
       → IsPut (bytesOf (recordsOf 0 Kind.Generic (splitOn 58 s))) d e r
   generic-put d e r p = rw (← generic-is) p
-
-pub ruleset generic-line·laws = (needs, ready-fields, owner-named, name-within, name-count, text-within, text-count, line-short, generic-ready, generic-fields, generic-room, generic-put)

@@ -93,11 +93,6 @@ pub nothing-as : (s : List ℕ) (k : Kind) (serial : ℕ) (d : List ℕ) → k �
 unfolding recordsOf bytesOf joinAll
 nothing-as s k serial d e = rw e (record { count = refl; room = omega arith; holds = refl })
 
-pub ruleset serial·laws =
-    (zone-serial, authority-serial, delegation-serial, host-serial, alias-serial, mail-serial, service-serial, location-serial, text-serial, pointer-serial, canonical-serial, generic-serial)
-
-pub ruleset kind·laws = (needs, ready-as, room-as, put-as, nothing-as, serial·laws)
-
 -- ---- the fields behind the kind byte
 
 -- a kind without a fault has no more fields than its row says
@@ -157,5 +152,3 @@ module _ (serial : ℕ) (line : List ℕ) (n : ℕ) (good : isGood line ≡ true
 
       pub rest-put : (d o : List ℕ) (r : ℕ) → IsPut (bytesOf (recordsOf serial k (splitOn 58 (take (n - 1) (drop 1 line))))) d o r → IsPut (bytesOf (lineRecords serial line)) d o r
       rest-put d o r w = rw rest-records w
-
-pub ruleset line·laws = (needs, nothing-left, comment, good-rest, rest-room, rest-put)

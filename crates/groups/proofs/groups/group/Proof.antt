@@ -1,7 +1,8 @@
 use Prim.Native.Nat.{_-_, _^_, _<_, _≤_}
 use lib.ListN.{length}
 use Rattle.numbers.proofs.HexDigit.{Hex}
-use Rattle.groups.proofs.Group.{anyCase, group·laws}
+use Rattle.octets.proofs.Taken.{not-good}
+use Rattle.groups.proofs.Group.{anyCase, empty, long, bad-digit, good, four-times, four-more, group·laws}
 use Rattle.groups.proofs.groups.group.Statement.{statement}
 use Rattle.groups.proofs.groups.group.Tie as tie
 
@@ -12,10 +13,10 @@ abbrev μ-loop : tie.MeasureT-loop
 μ-loop text n value₀ i₀ value i = length text - i
 
 returns : tie.Need-returns Inv-loop μ-loop
-returns c = search group·laws
+returns c = not-good _ _ _ _ (empty _ (c .if1 .taken))
 
 returns-2 : tie.Need-returns-2 Inv-loop μ-loop
-returns-2 c = search group·laws
+returns-2 c = not-good _ _ _ _ (long _ (c .if2 .taken))
 
 loop-holds : tie.Need-loop-holds Inv-loop μ-loop
 loop-holds c = search group·laws
@@ -30,13 +31,21 @@ hex-digit-requires : tie.Need-hex-digit-requires Inv-loop μ-loop
 hex-digit-requires c κs = search group·laws
 
 returns-3 : tie.Need-returns-3 Inv-loop μ-loop
-returns-3 c = search group·laws
+returns-3 c =
+    let lowered = c .before .before in
+    let test = lowered .before .before in
+    let few = test .before .before in
+    not-good _ _ _ _ (bad-digit _ _ _ (test .before .loop .inv .2) _ _ (lowered .lowered .ensures) (c .before .hex-digit .ensures) (test .loop-test .taken) (few .before .if1 .left) (few .if2 .left) (c .if3 .taken))
 
 mul-value : tie.Need-mul-value Inv-loop μ-loop
-mul-value c = search group·laws
+mul-value c =
+    let test = c .before .before .before .before in
+    four-times _ _ _ (test .before .loop .inv .1) (test .loop-test .taken) (test .before .before .if2 .left)
 
 add-value : tie.Need-add-value Inv-loop μ-loop
-add-value c = search group·laws
+add-value c =
+    let test = c .before .before .before .before in
+    four-more _ _ _ _ (test .before .loop .inv .1) (test .loop-test .taken) (test .before .before .if2 .left) (c .if3 .left)
 
 add-i : tie.Need-add-i Inv-loop μ-loop
 add-i c = search group·laws
@@ -48,7 +57,10 @@ loop-again : tie.Need-loop-again Inv-loop μ-loop
 loop-again c = search group·laws
 
 returns-4 : tie.Need-returns-4 Inv-loop μ-loop
-returns-4 c = search group·laws
+returns-4 c =
+    let loop = c .before in
+    let few = loop .before in
+    good _ _ _ (loop .loop .inv .2) (few .before .if1 .left) (few .if2 .left) (c .loop-test .left) (loop .loop .inv .0) (loop .loop .inv .1)
 
 pub group-spec : {M : Type 1} → statement M
 group-spec =

@@ -1,10 +1,10 @@
 use mathlib.Core.Path.{_≡_}
 use Prim.Native.Nat.{_*_, _-_, _≤_}
 use lib.ListN.{length, take}
 use Rattle.groups.specs.Groups.{groupsBytes}
-use Rattle.groups.proofs.Grouped.{bytes·laws}
-use Rattle.groups.proofs.groups.address_bytes.Statement.{statement}
-use Rattle.groups.proofs.groups.address_bytes.Tie as tie
+use Rattle.addresses.proofs.GroupsBytes.{bytes·laws}
+use Rattle.addresses.proofs.groups_bytes.address_bytes.Statement.{statement}
+use Rattle.addresses.proofs.groups_bytes.address_bytes.Tie as tie
 
 abbrev Inv-loop : tie.InvT-loop
 Inv-loop groups bytes₀ i₀ bytes i = (i ≤ 8) × (length bytes ≡ 16) × (take (2 * i) bytes ≡ groupsBytes (take i groups))

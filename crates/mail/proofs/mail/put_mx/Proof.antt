@@ -1,8 +1,8 @@
 use borrow.Author.Needs.{needs}
 use Rattle.buffer.proofs.Puts.{then-two}
-use Rattle.records.proofs.Exchanger.{mx-is}
-use Rattle.records.proofs.resources.put_mx.Statement.{statement}
-use Rattle.records.proofs.resources.put_mx.Tie as tie
+use Rattle.mail.proofs.Exchanger.{mx-is}
+use Rattle.mail.proofs.mail.put_mx.Statement.{statement}
+use Rattle.mail.proofs.mail.put_mx.Tie as tie
 
 add-put-head : tie.Need-add-put-head
 add-put-head c = search needs

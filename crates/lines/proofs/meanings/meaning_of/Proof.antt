@@ -1,9 +1,9 @@
 use borrow.Author.Needs.{needs}
 use Rattle.rules.specs.Lists.{pick}
-use Rattle.rows.specs.Rows.{meaningOf}
+use Rattle.lines.specs.Meanings.{meaningOf}
 use Rattle.wire.proofs.Steps.{tests, at-key}
-use Rattle.rows.proofs.rows.meaning_of.Statement.{statement}
-use Rattle.rows.proofs.rows.meaning_of.Tie as tie
+use Rattle.lines.proofs.meanings.meaning_of.Statement.{statement}
+use Rattle.lines.proofs.meanings.meaning_of.Tie as tie
 
 returns : tie.Need-returns
 unfolding meaningOf pick
