@@ -1,7 +1,7 @@
 // The pass that judges a stream and finds the client's location.
 ghost use mathlib.Core.Path.{_≡_};
 ghost use mathlib.Core.List.{map};
-ghost use Rattle.rules.specs.Lists.{lower};
+ghost use Rattle.rules.specs.Lists.{lower, beginsWith};
 ghost use Rattle.rules.specs.Records.{loBytes};
 ghost use Rattle.rules.specs.Questions.{matches};
 ghost use Rattle.rules.specs.Reading.{recordIn, decode};
@@ -12,7 +12,6 @@ use judge::record_in;
 use ranks::is_end;
 use rules::quantities::Lo;
 use stream::span_at;
-use wire::get::begins_with;
 
 // The location of the longest prefix so far, and how long a better prefix is at least; or that a record is malformed.
 enum Located {
@@ -24,6 +23,23 @@ enum Located {
 pub enum Judged {
     Whole(Lo, usize),
     Broken,
+}
+
+fn begins_with(prefix: &[u8], bytes: &[u8]) -> bool
+    ensures { λ r. ⌜ r ≡ beginsWith (now (prefix .entry)) (now (bytes .entry)) ⌝ }
+{
+    let n = prefix.len();
+    if bytes.len() < n {
+        return false;
+    }
+    let mut i: usize = 0;
+    while i < n {
+        if prefix[i] != bytes[i] {
+            return false;
+        }
+        i += 1;
+    }
+    true
 }
 
 // Whether a client is in a prefix. Only one of 4 bytes can be in any but the empty prefix.

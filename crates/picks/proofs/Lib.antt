@@ -1,1 +1,2 @@
+pub mod Lifetimes
 pub mod Picking

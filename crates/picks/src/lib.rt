@@ -6,16 +6,19 @@ ghost use Prim.Native.Nat.{_≤_};
 ghost use lib.ListN.{length, drop};
 ghost use Rattle.rules.specs.Lists.{lower, isSome, valueOr};
 ghost use Rattle.rules.specs.Records.{loBytes};
+ghost use Rattle.rules.specs.Questions.{lifetimeOf};
 ghost use Rattle.rules.specs.Reading.{recordIn, decode};
+ghost use Rattle.view.specs.Views.{sharing};
 ghost use Rattle.picks.specs.Picks.{wantedIn, replyIn, pickedFrom};
 use judge::Seen;
 use judge::known::known_in;
 use ranks::rank_in;
 use rules::quantities::Lo;
 use rules::quantities::Moment;
+use rules::quantities::Shared;
+use rules::quantities::Ttl;
 use rules::replies::Reply;
 use stream::span_at;
-use view::lifetime;
 
 // Whether a record is of the level and of the type asked for, 255 for any.
 fn is_wanted(
@@ -48,6 +51,31 @@ fn is_wanted(
             qtype == rtype
         }
     }
+}
+
+// The ttl; or for a record that ends, the seconds left, at least 2 and at most 3,600.
+fn lifetime(moment: Moment, shared: Shared) -> Ttl
+    ensures { λ r. ⌜ r ≡ record { 0 = lifetimeOf (moment .0) (sharing shared) } ⌝ }
+{
+    let ttl = shared.ttl.0;
+    let time = shared.time.0;
+    if 0 < ttl {
+        return Ttl(ttl);
+    }
+    if time == 0 {
+        return Ttl(0);
+    }
+    if time <= moment.0 {
+        return Ttl(2);
+    }
+    let left = time - moment.0;
+    if left < 2 {
+        return Ttl(2);
+    }
+    if 3600 < left {
+        return Ttl(3600);
+    }
+    Ttl(left as u32)
 }
 
 // What is answered of a record that ends at a place.

@@ -10,14 +10,12 @@ use Rattle.rules.specs.declared.quantities.Lo.{Lo}
 use Rattle.rules.specs.declared.quantities.Shared.{Shared}
 use Rattle.rules.specs.Lists.{pick, isSome}
 use Rattle.rules.specs.Reading.{recordIn}
-use Rattle.stream.specs.declared.Head.{Head}
-use Rattle.stream.specs.declared.Head.the-variants.{Whole, Broken}
+use Rattle.stream.specs.declared.Span.{Span}
 use Rattle.judge.specs.declared.Seen.{Seen}
-use Rattle.stream.specs.Heads.{sizeAt, headOf, recordAt}
-use Rattle.stream.specs.Spans.{part}
+use Rattle.stream.specs.Heads.{recordAt}
+use Rattle.stream.specs.Spans.{part, IsSpan}
 use Rattle.judge.specs.Seen.{seenRecord}
-use Rattle.stream.proofs.Heads.{malformed, broken-is}
-use Rattle.stream.proofs.Spans.{head-left, whole, key-part, data-part}
+use Rattle.stream.proofs.Heads.{malformed}
 use Rattle.places.specs.declared.Found.{Found}
 use Rattle.places.specs.Places.{nothingAt, placesAt, foundAt}
 
@@ -45,27 +43,29 @@ module _ (bytes : List ℕ) (at : ℕ) where
   unfolding foundAt nothingAt isSome pick
   at-end h = rw (malformed (drop at bytes) (omega (arith, length-drop at bytes)))
 
-  module _ (h : Head) (l : at < length bytes) (e : h ≡ headOf (take (length bytes - at) (drop at bytes))) where
-    pub no-head : h ≡ Broken → record { whole = false; key = at; rdata = at; next = at } ≡ foundAt bytes at
-    unfolding foundAt nothingAt isSome pick
-    no-head w = rw (broken-is (drop at bytes) (sym w ∙ head-left bytes at h e l))
+  module _ (span : Span) (i : IsSpan bytes at span) (f : Bool)
+      (is : f ≡ isSome (recordIn (take (span .middle - span .start) (drop (span .start) bytes)) (take (span .next - span .middle) (drop (span .middle) bytes)))) where
+    whole-flag : isSome (recordAt (drop at bytes)) ≡ f
+    unfolding part
+    whole-flag = ap isSome (i .here) ∙ sym is
 
-    module _ (k d : ℕ) (w : h ≡ Whole k d) (f : Bool) (is : f ≡ isSome (recordIn (take (at + 8 + k - (at + 8)) (drop (at + 8) bytes)) (take (at + 8 + k + d - (at + 8 + k)) (drop (at + 8 + k) bytes)))) where
-      whole-flag : isSome (recordAt (drop at bytes)) ≡ f
-      unfolding recordAt part pick
-      whole-flag = rw (whole bytes at h e l k d w .fit, key-part bytes at h e l k d w, data-part bytes at h e l k d w) (sym is)
+    pub malformed-there : f ≡ false → record { whole = false; key = at; rdata = at; next = at } ≡ foundAt bytes at
+    unfolding foundAt nothingAt pick
+    malformed-there q = rw (whole-flag, q)
 
-      pub malformed-there : f ≡ false → record { whole = false; key = at; rdata = at; next = at } ≡ foundAt bytes at
-      unfolding foundAt nothingAt pick
-      malformed-there q = rw (whole-flag, q)
+    -- no record has an empty key
+    key-there : f ≡ true → span .start < span .middle
+    unfolding recordIn isSome
+    key-there q = go (span .middle - span .start) refl
+      where
+        go : (n : ℕ) → span .middle - span .start ≡ n → span .start < span .middle
+        go zero e = let t : true ≡ false = sym q ∙ is ∙ rw e in let z : _≡_ {A = ℕ} 0 1 = cc in absurd (omega arith)
+        go (suc n) e = omega arith
 
-      pub whole-there : f ≡ true → record { whole = true; key = at + 8; rdata = at + 8 + k; next = at + 8 + k + d } ≡ foundAt bytes at
-      unfolding foundAt placesAt pick sizeAt
-      whole-there q =
-          let kd = whole bytes at h e l k d w in
-          rw (whole-flag, q, ← (kd .key-is), ← (kd .data-is)) (λ i. record { whole = true; key = at + 8; rdata = at + 8 + k; next = sum i })
-        where
-          sum : at + 8 + k + d ≡ at + (8 + k + d)
-          sum = omega arith
+    pub whole-there : f ≡ true → record { whole = true; key = span .start; rdata = span .middle; next = span .next } ≡ foundAt bytes at
+    unfolding foundAt placesAt pick
+    whole-there q =
+        let l = key-there q in
+        rw (whole-flag, q, i .lengths-first l, i .key-ends l, i .data-end l)
 
-pub ruleset place·laws = (needs, at-end, no-head, malformed-there, whole-there)
+pub ruleset place·laws = (needs, at-end, malformed-there, whole-there)

@@ -6,8 +6,7 @@ ghost use Rattle.rules.specs.Reading.{recordIn};
 ghost use Rattle.places.specs.Places.{foundAt};
 use judge::Seen;
 use judge::record_in;
-use stream::Head;
-use stream::head_of;
+use stream::span_at;
 
 // Where a record's key begins, where its data begin and where the next record begins; or that no whole record is there, and then all three are the place itself.
 pub struct Found {
@@ -46,22 +45,17 @@ pub fn record_at(bytes: &[u8], at: usize) -> Found
     if bytes.len() <= at {
         return nothing;
     }
-    match head_of(&bytes[at..]) {
-        Head::Broken => nothing,
-        Head::Whole(long, record) => {
-            let key = at + 8;
-            let rdata = key + long;
-            let next = rdata + record;
-            if is_record(&bytes[key..rdata], &bytes[rdata..next]) {
-                Found {
-                    whole: true,
-                    key,
-                    rdata,
-                    next,
-                }
-            } else {
-                nothing
-            }
-        }
+    let span = span_at(bytes, at);
+    let key = span.start;
+    let rdata = span.middle;
+    let next = span.next;
+    if is_record(&bytes[key..rdata], &bytes[rdata..next]) {
+        return Found {
+            whole: true,
+            key,
+            rdata,
+            next,
+        };
     }
+    nothing
 }

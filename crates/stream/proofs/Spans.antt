@@ -48,7 +48,10 @@ module _ (stream : List ℕ) (at : ℕ) (h : Head) (e : h ≡ headOf (take (leng
         let q : at + sizeAt (drop at stream) ≡ at + 8 + k + d = unfold sizeAt in omega (arith, whole .key-is, whole .data-is) in
         record {
           says = decode-more (drop at stream) left-long ∙ rw (whole .fit, key-part, data-part, drop-drop (sizeAt (drop at stream)) at stream, q);
+          here = rw (whole .fit, key-part, data-part);
           lengths-first = λ h. refl;
+          key-ends = λ h. ap (λ n. at + 8 + n) (whole .key-is);
+          data-end = λ h. sym q;
           goes-on = omega arith;
           inside = long-enough;
           key-first = omega arith;
@@ -61,7 +64,10 @@ module _ (stream : List ℕ) (at : ℕ) (h : Head) (e : h ≡ headOf (take (leng
       let q : at - at ≡ 0 = omega arith in
       record {
         says = decode-more (drop at stream) left-long ∙ rw (broken-is (drop at stream) (sym w ∙ head-left), q);
-        lengths-first = λ h. omega arith;
+        here = broken-is (drop at stream) (sym w ∙ head-left) ∙ rw q;
+        lengths-first = λ h. absurd (omega arith);
+        key-ends = λ h. absurd (omega arith);
+        data-end = λ h. absurd (omega arith);
         goes-on = l;
         inside = omega arith;
         key-first = omega arith;

@@ -7,13 +7,13 @@ ghost use Rattle.stream.specs.Spans.{IsSpan};
 use wire::get::get_le;
 
 // What stands at the front: a record with the lengths of its key and its data, or bytes that its lengths don't fit.
-pub enum Head {
+enum Head {
     Whole(usize, usize),
     Broken,
 }
 
 // The lengths are only compared with what is there, never added: no sum can wrap.
-pub fn head_of(bytes: &[u8]) -> Head
+fn head_of(bytes: &[u8]) -> Head
     ensures { λ r. ⌜ r ≡ headOf (now (bytes .entry)) ⌝ }
 {
     let n = bytes.len();

@@ -5,7 +5,7 @@ ghost use lib.ListN.{length};
 ghost use lib.Dec.{eqb};
 ghost use Rattle.rules.specs.Lists.{sameBytes};
 ghost use Rattle.rules.specs.Records.{loBytes};
-ghost use Rattle.rules.specs.Questions.{inTime, visible, lifetimeOf};
+ghost use Rattle.rules.specs.Questions.{inTime, visible};
 ghost use Rattle.view.specs.Views.{sharing};
 use rules::quantities::Lo;
 use rules::quantities::Moment;
@@ -52,29 +52,4 @@ pub fn visible(here: Lo, moment: Moment, shared: Shared) -> bool
         return false;
     }
     in_time(moment, shared.ttl, shared.time)
-}
-
-// The ttl; or for a record that ends, the seconds left, at least 2 and at most 3,600.
-pub fn lifetime(moment: Moment, shared: Shared) -> Ttl
-    ensures { λ r. ⌜ r ≡ record { 0 = lifetimeOf (moment .0) (sharing shared) } ⌝ }
-{
-    let ttl = shared.ttl.0;
-    let time = shared.time.0;
-    if 0 < ttl {
-        return Ttl(ttl);
-    }
-    if time == 0 {
-        return Ttl(0);
-    }
-    if time <= moment.0 {
-        return Ttl(2);
-    }
-    let left = time - moment.0;
-    if left < 2 {
-        return Ttl(2);
-    }
-    if 3600 < left {
-        return Ttl(3600);
-    }
-    Ttl(left as u32)
 }

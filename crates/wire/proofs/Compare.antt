@@ -53,21 +53,6 @@ longer [] b e = omega arith
 longer (x ∷ a) [] e = absurd (let z : _≡_ {A = ℕ} 0 1 = cc in omega arith)
 longer (x ∷ a) (y ∷ b) e = let h = longer a b (and-right (eqb x y) (beginsWith a b) e) in omega arith
 
-module _ (a b : List ℕ) (i : ℕ) (e : beginsWith (drop i a) (drop i b) ≡ beginsWith a b) where
-  pub begins-next : i < length a → length a ≤ length b → getD a i 0 ≡ getD b i 0 → beginsWith (drop (i + 1) a) (drop (i + 1) b) ≡ beginsWith a b
-  unfolding beginsWith
-  begins-next h l q = rw (left-at a i h, left-at b i (omega arith), eq-eqb _ _ q) at e
-
-  pub begins-not : i < length a → length a ≤ length b → (getD a i 0 ≡ getD b i 0 → ⊥) → false ≡ beginsWith a b
-  unfolding beginsWith
-  begins-not h l q = rw (left-at a i h, left-at b i (omega arith), ne-eqb _ _ q) at e
-
-  pub begins-end : length a ≤ i → true ≡ beginsWith a b
-  unfolding beginsWith
-  begins-end h = rw (drop-of-length-le a h) at e
-
-pub ruleset begins·laws = (needs, too-short, begins-next, begins-not, begins-end)
-
 -- the same with a name whose letters are lowered as they are compared
 lowered-at : (name : List ℕ) (i : ℕ) → getD (map lower name) i 0 ≡ lower (getD name i 0)
 unfolding lower pick

@@ -1,8 +1,8 @@
-// Readers of bytes: numbers and comparisons.
+// Readers of bytes: numbers.
 ghost use mathlib.Core.Path.{_≡_};
 ghost use Prim.Native.Nat.{_<_, _≤_};
 ghost use lib.ListN.{length};
-ghost use Rattle.rules.specs.Lists.{fromBE, fromLE, beginsWith};
+ghost use Rattle.rules.specs.Lists.{fromBE, fromLE};
 
 // A byte as a number that sums of bytes fit.
 pub fn wide(x: u8) -> u64
@@ -39,21 +39,4 @@ pub fn get_le(bytes: &[u8]) -> u64
         value = value * 256 + wide(bytes[i]);
     }
     value
-}
-
-pub fn begins_with(prefix: &[u8], bytes: &[u8]) -> bool
-    ensures { λ r. ⌜ r ≡ beginsWith (now (prefix .entry)) (now (bytes .entry)) ⌝ }
-{
-    let n = prefix.len();
-    if bytes.len() < n {
-        return false;
-    }
-    let mut i: usize = 0;
-    while i < n {
-        if prefix[i] != bytes[i] {
-            return false;
-        }
-        i += 1;
-    }
-    true
 }

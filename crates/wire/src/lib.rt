@@ -1,2 +1,2 @@
-// Bytes read and compared.
+// Bytes read as numbers.
 pub mod get;

@@ -1,4 +1,4 @@
-use Rattle.judge.proofs.ByKeys.{type·laws}
+use Rattle.judge.proofs.ByKeys.{typed, type·laws}
 use Rattle.judge.proofs.resource_in.Statement.{statement}
 use Rattle.judge.proofs.resource_in.Tie as tie
 
@@ -30,7 +30,9 @@ by-flag-requires : tie.Need-by-flag-requires
 by-flag-requires c κs = search type·laws
 
 returns-2 : tie.Need-returns-2
-returns-2 c = search type·laws
+returns-2 c =
+    let w = c .before .before .before in
+    (typed _ _ _ _ _ (w .before .before .if1 .left) (w .wide .ensures .0) (c .before .wide2 .ensures .0) (c .by-flag .ensures .0), c .by-flag .ensures .1)
 
 pub resource-in-spec : {M : Type 1} → statement M
 resource-in-spec =

@@ -1,4 +1,4 @@
-use Rattle.keys.proofs.Labels.{lo·laws}
+use Rattle.keys.proofs.Labels.{two-letters, lo·laws}
 use Rattle.keys.proofs.is_lo.Statement.{statement}
 use Rattle.keys.proofs.is_lo.Tie as tie
 
@@ -15,7 +15,9 @@ is-letter-requires-2 : tie.Need-is-letter-requires-2
 is-letter-requires-2 c κs = search lo·laws
 
 returns-3 : tie.Need-returns-3
-returns-3 c = search lo·laws
+returns-3 c =
+    let m = c .before .before in
+    two-letters _ _ _ (m .before .is-letter .ensures) _ (m .if1 .left) (c .before .if2 .left) (c .is-letter2 .ensures)
 
 pub is-lo-spec : {M : Type 1} → statement M
 is-lo-spec =

@@ -1,4 +1,4 @@
-use Rattle.keys.proofs.Labels.{wild·laws}
+use Rattle.keys.proofs.Labels.{one-star, wild·laws}
 use Rattle.keys.proofs.is_wild.Statement.{statement}
 use Rattle.keys.proofs.is_wild.Tie as tie
 
@@ -15,7 +15,7 @@ shared-slice-read-result : tie.Need-shared-slice-read-result
 shared-slice-read-result c = search wild·laws
 
 returns-3 : tie.Need-returns-3
-returns-3 c = search wild·laws
+returns-3 c = one-star _ (c .before .before .before .if1 .left) (c .before .if2 .left)
 
 pub is-wild-spec : {M : Type 1} → statement M
 is-wild-spec =

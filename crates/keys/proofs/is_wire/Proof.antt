@@ -2,7 +2,7 @@ use Prim.Native.Nat.{_-_, _≤_}
 use mathlib.Core.Path.{_≡_}
 use lib.ListN.{length, drop}
 use Rattle.rules.specs.Names.{labels, isWire}
-use Rattle.keys.proofs.Labels.{wire·laws}
+use Rattle.keys.proofs.Labels.{too-long, short-enough, label-long, label-passed, wire·laws}
 use Rattle.keys.proofs.is_wire.Statement.{statement}
 use Rattle.keys.proofs.is_wire.Tie as tie
 
@@ -13,10 +13,10 @@ abbrev μ-loop : tie.MeasureT-loop
 μ-loop name n i₀ i = length name - i
 
 returns : tie.Need-returns Inv-loop μ-loop
-returns c = search wire·laws
+returns c = too-long _ (c .if1 .taken)
 
 loop-holds : tie.Need-loop-holds Inv-loop μ-loop
-loop-holds c = search wire·laws
+loop-holds c = (c .if1 .left, short-enough _ (c .if1 .left))
 
 shared-slice-read-wide : tie.Need-shared-slice-read-wide Inv-loop μ-loop
 shared-slice-read-wide c = search wire·laws
@@ -31,7 +31,10 @@ returns-2 : tie.Need-returns-2 Inv-loop μ-loop
 returns-2 c = search wire·laws
 
 returns-3 : tie.Need-returns-3 Inv-loop μ-loop
-returns-3 c = search wire·laws
+returns-3 c =
+    let w = c .before .before in
+    let t = w .before .before in
+    label-long _ _ (t .before .loop .inv .1) _ (w .wide .ensures .0) (t .loop-test .taken) (c .if3 .taken)
 
 add-i : tie.Need-add-i Inv-loop μ-loop
 add-i c = search wire·laws
@@ -43,7 +46,10 @@ loop-less : tie.Need-loop-less Inv-loop μ-loop
 loop-less c = search wire·laws
 
 loop-again : tie.Need-loop-again Inv-loop μ-loop
-loop-again c = search wire·laws
+loop-again c =
+    let w = c .before .before in
+    let t = w .before .before in
+    (t .before .loop .inv .0, label-passed _ _ (t .before .loop .inv .1) _ (w .wide .ensures .0) (t .loop-test .taken) (c .before .if2 .left) (c .if3 .left))
 
 returns-4 : tie.Need-returns-4 Inv-loop μ-loop
 returns-4 c = search wire·laws

@@ -1,4 +1,4 @@
-use Rattle.stream.proofs.Heads.{head·laws}
+use Rattle.stream.proofs.Heads.{key-beyond, data-beyond, is-whole, head·laws}
 use Rattle.stream.proofs.head_of.Statement.{statement}
 use Rattle.stream.proofs.head_of.Tie as tie
 
@@ -18,7 +18,7 @@ get-le-requires : tie.Need-get-le-requires
 get-le-requires c κs = search head·laws
 
 returns-2 : tie.Need-returns-2
-returns-2 c = search head·laws
+returns-2 c = key-beyond _ _ (c .before .get-le .ensures) (c .before .before .before .if1 .left) (c .if2 .taken)
 
 sub-get-le-2 : tie.Need-sub-get-le-2
 sub-get-le-2 c = search head·laws
@@ -33,10 +33,14 @@ get-le-requires-2 : tie.Need-get-le-requires-2
 get-le-requires-2 c κs = search head·laws
 
 returns-3 : tie.Need-returns-3
-returns-3 c = search head·laws
+returns-3 c =
+    let m = c .before .before .before in
+    data-beyond _ _ (m .before .get-le .ensures) (m .before .before .before .if1 .left) _ (c .before .get-le2 .ensures) (m .if2 .left) (c .if3 .taken)
 
 returns-4 : tie.Need-returns-4
-returns-4 c = search head·laws
+returns-4 c =
+    let m = c .before .before .before in
+    is-whole _ _ (m .before .get-le .ensures) (m .before .before .before .if1 .left) _ (c .before .get-le2 .ensures) (m .if2 .left) (c .if3 .left)
 
 pub head-of-spec : {M : Type 1} → statement M
 head-of-spec =

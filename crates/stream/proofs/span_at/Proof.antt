@@ -1,7 +1,7 @@
 use borrow.Author.Needs.{needs}
 use denote.Ref.{now}
 use native.Mathlib.Omega.{arith}
-use Rattle.stream.proofs.Spans.{long-enough, span·laws}
+use Rattle.stream.proofs.Spans.{long-enough, spanned, unspanned, span·laws}
 use Rattle.stream.proofs.span_at.Statement.{statement}
 use Rattle.stream.proofs.span_at.Tie as tie
 
@@ -39,10 +39,16 @@ enum-told : tie.Need-enum-told
 enum-told c = search span·laws
 
 returns : tie.Need-returns
-returns c = search span·laws
+returns c =
+    let m = c .before .before .before in
+    let s = m .before .before .before in
+    spanned (now (s .args .stream)) (s .args .at) _ (m .head-of .ensures) (s .pre) _ _ (c .before .key .given .1)
 
 returns-2 : tie.Need-returns-2
-returns-2 c = search span·laws
+returns-2 c =
+    let m = c .before .before in
+    let s = m .before .before .before in
+    unspanned (now (s .args .stream)) (s .args .at) _ (m .head-of .ensures) (s .pre) (c .enum-told .given .1)
 
 pub span-at-spec : {M : Type 1} → statement M
 span-at-spec =

@@ -1,6 +1,6 @@
-use Rattle.view.proofs.Viewing.{lifetime·laws}
-use Rattle.view.proofs.lifetime.Statement.{statement}
-use Rattle.view.proofs.lifetime.Tie as tie
+use Rattle.picks.proofs.Lifetimes.{lifetime·laws}
+use Rattle.picks.proofs.lifetime.Statement.{statement}
+use Rattle.picks.proofs.lifetime.Tie as tie
 
 returns : tie.Need-returns
 returns c = search lifetime·laws

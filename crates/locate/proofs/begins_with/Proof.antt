@@ -2,9 +2,9 @@ use Prim.Native.Nat.{_-_, _≤_}
 use mathlib.Core.Path.{_≡_}
 use lib.ListN.{length, drop}
 use Rattle.rules.specs.Lists.{beginsWith}
-use Rattle.wire.proofs.Compare.{begins·laws}
-use Rattle.wire.proofs.get.begins_with.Statement.{statement}
-use Rattle.wire.proofs.get.begins_with.Tie as tie
+use Rattle.locate.proofs.Prefixes.{begins·laws}
+use Rattle.locate.proofs.begins_with.Statement.{statement}
+use Rattle.locate.proofs.begins_with.Tie as tie
 
 abbrev Inv-loop : tie.InvT-loop
 Inv-loop prefix bytes n i₀ i = (i ≤ length prefix) × (length prefix ≤ length bytes) × (beginsWith (drop i prefix) (drop i bytes) ≡ beginsWith prefix bytes)
