@@ -1,11 +1,11 @@
 -- The laws of what is read of a line with a field x.
 use mathlib.Core.Path.{_≡_, ap, _∙_, sym}
 use mathlib.Core.Bool.{true, false, true≢false}
-use mathlib.Core.List.{List, [], _∷_}
+use mathlib.Core.List.{List}
 use Prim.Native.Nat.{ℕ, _≤_}
 use native.Mathlib.Omega.{arith}
 use lib.Dec.{T}
-use lib.ListN.{length, take}
+use lib.ListN.{length}
 use Rattle.rules.specs.Lists.{splitOn, has}
 use Rattle.rules.specs.Kinds.{common, meanings, fieldCount, fieldAt}
 use Rattle.rules.specs.Names.{named, nameOf, wireOf}

@@ -1,12 +1,12 @@
 -- The laws of a line written by its kind.
-use mathlib.Core.Path.{_≡_, refl, ap, _∙_, subst}
-use mathlib.Core.Bool.{Bool, true, false, not}
-use mathlib.Core.List.{List, [], _∷_, _++_}
-use Prim.Native.Nat.{ℕ, zero, suc, _-_, _≤_}
+use mathlib.Core.Path.{_≡_, refl, _∙_, subst}
+use mathlib.Core.Bool.{Bool, true, false}
+use mathlib.Core.List.{List, _∷_}
+use Prim.Native.Nat.{ℕ, _-_, _≤_}
 use native.Mathlib.Omega.{arith}
 use borrow.Author.Needs.{needs}
 use borrow.Author.Tests.{le-leb}
-use lib.Dec.{T, eqb, nltb→le}
+use lib.Dec.{nltb→le}
 use lib.ListN.{length, getD, take, drop, length-take, length-drop}
 use Rattle.rules.specs.Lists.{pick, splitOn, joinAll}
 use Rattle.rules.specs.Kinds.{ignored, kindOf, fieldCount}
@@ -17,13 +17,10 @@ use Rattle.rules.specs.declared.kinds.Kind.{Kind}
 use Rattle.rules.proofs.Tests.{pick-ok}
 use Rattle.rules.proofs.GoodLines.{Done, line-done}
 use Rattle.buffer.specs.Put.{IsPut}
-use Rattle.rows.specs.Rows.{rowOf}
 use Rattle.splits.specs.Splits.{IsSplit}
 use Rattle.kinds.specs.Strips.{IsStripped}
-use Rattle.rows.specs.declared.rows.Row.{Row}
 use Rattle.splits.specs.declared.splits.Fields.{Fields}
 use Rattle.splits.specs.declared.splits.Span.{Span}
-use Rattle.rows.proofs.Table.{count-most}
 use Rattle.kinds.proofs.Stripping.{parted-line}
 use Rattle.values.specs.Ready.{Ready}
 use Rattle.writer.specs.GoodLine.{GoodRest}
