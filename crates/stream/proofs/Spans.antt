@@ -16,26 +16,26 @@ use Rattle.stream.specs.declared.Head.the-variants.{Whole, Broken}
 use Rattle.stream.proofs.Heads.{IsWhole, whole-is, broken-is, decode-more}
 
 module _ (stream : List ℕ) (at : ℕ) (h : Head) (e : h ≡ headOf (take (length stream - at) (drop at stream))) (l : at < length stream) where
-  pub head-left : h ≡ headOf (drop at stream)
+  head-left : h ≡ headOf (drop at stream)
   head-left = e ∙ ap headOf (tail-lent stream at)
 
   left-long : 0 < length (drop at stream)
   left-long = omega (arith, length-drop at stream)
 
   module _ (k d : ℕ) (w : h ≡ Whole k d) where
-    pub whole : IsWhole (drop at stream) k d
+    whole : IsWhole (drop at stream) k d
     whole = whole-is (drop at stream) k d (sym w ∙ head-left)
 
     pub long-enough : at + 8 + k + d ≤ length stream
     long-enough = unfold sizeAt in omega (arith, whole .long, whole .key-is, whole .data-is, length-drop at stream)
 
-    pub key-part : keyAt (drop at stream) ≡ part stream (at + 8) (at + 8 + k)
+    key-part : keyAt (drop at stream) ≡ part stream (at + 8) (at + 8 + k)
     unfolding keyAt part
     key-part =
         let q : at + 8 + k - (at + 8) ≡ k = omega arith in
         rw (q, ← (whole .key-is), drop-drop 8 at stream)
 
-    pub data-part : dataAt (drop at stream) ≡ part stream (at + 8 + k) (at + 8 + k + d)
+    data-part : dataAt (drop at stream) ≡ part stream (at + 8 + k) (at + 8 + k + d)
     unfolding dataAt part
     data-part =
         let q : at + 8 + k + d - (at + 8 + k) ≡ d = omega arith in

@@ -1,3 +1,4 @@
+use denote.Ref.{now}
 use Prim.Native.Nat.{_-_, _≤_, max}
 use mathlib.Core.Path.{_≡_}
 use mathlib.Core.List.{[], map}
@@ -7,7 +8,7 @@ use Rattle.rules.specs.Reading.{decode}
 use mathlib.Core.Bool.{true}
 use Rattle.rules.specs.Lists.{lower, isSome, valueOr}
 use Rattle.ranks.specs.Ranks.{largest, seenRank}
-use Rattle.level.proofs.Bests.{best·laws}
+use Rattle.level.proofs.Bests.{rest-whole, larger, no-larger, most, best·laws}
 use Rattle.level.proofs.best_rank.Statement.{statement}
 use Rattle.level.proofs.best_rank.Tie as tie
 
@@ -22,7 +23,10 @@ loop-holds : tie.Need-loop-holds Inv-loop μ-loop
 loop-holds c = search best·laws
 
 returns : tie.Need-returns Inv-loop μ-loop
-returns c = search best·laws
+returns c =
+    let l = c .before .before in
+    let s = l .before .before .before in
+    most _ _ _ (now (s .args .stream)) _ (l .loop .at) _ (s .pre .0) (l .loop .inv .2) (c .if1 .taken)
 
 span-at-requires : tie.Need-span-at-requires Inv-loop μ-loop
 span-at-requires c κs = search best·laws
@@ -52,13 +56,21 @@ loop-less : tie.Need-loop-less Inv-loop μ-loop
 loop-less c = search best·laws
 
 loop-again : tie.Need-loop-again Inv-loop μ-loop
-loop-again c = search best·laws
+loop-again c =
+    let r = c .before in
+    let s = r .before .before .before in
+    let l = s .before .before .before in
+    (s .span-at .ensures .inside, rest-whole _ _ _ (s .span-at .ensures) (l .loop .inv .1), larger _ _ _ _ _ _ _ (l .loop .inv .2) (l .loop .inv .1) _ (s .span-at .ensures) _ (r .rank-in .ensures) (c .if2 .taken))
 
 loop-less-2 : tie.Need-loop-less-2 Inv-loop μ-loop
 loop-less-2 c = search best·laws
 
 loop-again-2 : tie.Need-loop-again-2 Inv-loop μ-loop
-loop-again-2 c = search best·laws
+loop-again-2 c =
+    let r = c .before in
+    let s = r .before .before .before in
+    let l = s .before .before .before in
+    (s .span-at .ensures .inside, rest-whole _ _ _ (s .span-at .ensures) (l .loop .inv .1), no-larger _ _ _ _ _ _ _ (l .loop .inv .2) (l .loop .inv .1) _ (s .span-at .ensures) _ (r .rank-in .ensures) (c .if2 .left))
 
 returns-2 : tie.Need-returns-2 Inv-loop μ-loop
 returns-2 c = search best·laws

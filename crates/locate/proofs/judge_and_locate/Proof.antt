@@ -7,7 +7,7 @@ use lib.ListN.{length, drop}
 use Rattle.rules.specs.Records.{loBytes}
 use Rattle.rules.specs.Reading.{decode}
 use Rattle.locate.specs.Locations.{locatedFrom, locatedIn}
-use Rattle.locate.proofs.Locating.{locate·laws}
+use Rattle.locate.proofs.Locating.{malformed, nothing-skipped, locate·laws}
 use Rattle.locate.proofs.judge_and_locate.Statement.{statement}
 use Rattle.locate.proofs.judge_and_locate.Tie as tie
 
@@ -48,7 +48,10 @@ enum-told : tie.Need-enum-told Inv-loop μ-loop
 enum-told c = search locate·laws
 
 returns : tie.Need-returns Inv-loop μ-loop
-returns c = search locate·laws
+returns c =
+    let b = c .before .before in
+    let s = b .before .before .before in
+    (malformed _ _ _ _ _ (s .before .before .loop .inv .1) _ (s .span-at .ensures) _ (b .better-in .ensures) (c .enum-told .given .1), nothing-skipped _ _)
 
 enum-known-best : tie.Need-enum-known-best Inv-loop μ-loop
 enum-known-best c = search locate·laws

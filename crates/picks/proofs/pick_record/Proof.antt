@@ -1,5 +1,5 @@
 use Prim.Native.Nat.{_-_, _≤_}
-use mathlib.Core.Path.{_≡_}
+use mathlib.Core.Path.{_≡_, refl}
 use mathlib.Core.List.{[], map}
 use lib.ListN.{length, drop}
 use Rattle.rules.specs.Records.{loBytes}
@@ -20,7 +20,9 @@ abbrev μ-loop : tie.MeasureT-loop
 μ-loop stream name qtype here moment best ordinal from n left₀ at₀ left at = length stream - at
 
 loop-holds : tie.Need-loop-holds Inv-loop μ-loop
-loop-holds c = search pick·laws
+loop-holds c =
+    let s = c .before .before in
+    (s .pre .0, s .pre .1, refl)
 
 span-at-requires : tie.Need-span-at-requires Inv-loop μ-loop
 span-at-requires c κs = search pick·laws

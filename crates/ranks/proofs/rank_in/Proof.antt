@@ -1,4 +1,4 @@
-use Rattle.ranks.proofs.KeyRanks.{rank-in·laws}
+use Rattle.ranks.proofs.KeyRanks.{seen-one, rank-in·laws}
 use Rattle.ranks.proofs.rank_in.Statement.{statement}
 use Rattle.ranks.proofs.rank_in.Tie as tie
 
@@ -36,7 +36,10 @@ returns-4 : tie.Need-returns-4
 returns-4 c = search rank-in·laws
 
 returns-5 : tie.Need-returns-5
-returns-5 c = search rank-in·laws
+returns-5 c =
+    let v = c .before .before in
+    let w = v .before .before in
+    seen-one _ _ _ _ _ _ (w .before .before .known-in .ensures .0) _ _ _ _ (w .wild .given .1) _ (v .visible .ensures) _ (c .before .if2 .left) (c .rank .ensures)
 
 pub rank-in-spec : {M : Type 1} → statement M
 rank-in-spec =

@@ -1,4 +1,4 @@
-use Rattle.reader.proofs.Answering.{answer·laws}
+use Rattle.reader.proofs.Answering.{no-level, of-level, answer·laws}
 use Rattle.reader.proofs.answer.answer.Statement.{statement}
 use Rattle.reader.proofs.answer.answer.Tie as tie
 
@@ -6,13 +6,19 @@ best-rank-requires : tie.Need-best-rank-requires
 best-rank-requires c κs = search answer·laws
 
 returns : tie.Need-returns
-returns c = search answer·laws
+returns c =
+    let b = c .before in
+    let s = b .before .before .before in
+    no-level _ _ _ _ _ _ _ _ (s .pre .0) (s .pre .1 .0) (s .pre .1 .1) (b .best-rank .ensures) (c .if1 .taken)
 
 pick-record-requires : tie.Need-pick-record-requires
 pick-record-requires c κs = search answer·laws
 
 returns-2 : tie.Need-returns-2
-returns-2 c = search answer·laws
+returns-2 c =
+    let b = c .before .before in
+    let s = b .before .before .before in
+    of-level _ _ _ _ _ _ _ _ (s .pre .0) (s .pre .1 .0) (s .pre .1 .1) (b .best-rank .ensures) _ (c .before .if1 .left) (c .pick-record .ensures)
 
 pub answer-spec : {M : Type 1} → statement M
 answer-spec = tie.close (tie.spec best-rank-requires returns pick-record-requires returns-2)
