@@ -15,7 +15,7 @@ tests() {
     if cargo clippy --version >/dev/null 2>&1; then
         CARGO_TARGET_DIR=$checks MUTANTS=1 cargo clippy --workspace --all-targets --quiet -- --deny warnings || return
     fi
-    CARGO_TARGET_DIR=$checks cargo test --quiet && compare 1 350000
+    CARGO_TARGET_DIR=$checks cargo test --quiet && compare 1 200000
 }
 
 cargo fmt --all --check
@@ -24,7 +24,7 @@ cargo fmt --all --check
 # tests, and each lane makes as much of the comparison as lets both end together.
 said=$(mktemp)
 trap 'rm -f "$said"' EXIT
-{ cargo run --release --quiet --package mutants && compare 2 150000; } >"$said" 2>&1 &
+{ cargo run --release --quiet --package mutants && compare 2 100000; } >"$said" 2>&1 &
 mistakes=$!
 status=0
 tests || status=1
