@@ -58,6 +58,10 @@ module _ (s t middle owner : List ℕ) (e : t ≡ fieldAt (splitOn 58 s) 2) wher
 host-short : (t : List ℕ) → T (isDone (faultOf Meaning.HostPart t)) → has 46 t ≡ false → length t ≤ 63
 host-short t d e = host-label t d (rw e tt)
 
+good-host : (owner x middle : List ℕ) → length middle ≤ 63 → T (isDone (faultOf Meaning.HostPart x)) → length (hostName middle owner x) ≤ 255 → HostGood owner x middle
+unfolding faultOf
+good-host owner x middle m d h = record { named = named-done _ d; label = host-short x d; small = m; short = h }
+
 pub host-count : (kind : Kind) → namesHost kind ≡ true → 3 ≤ fieldCount kind
 unfolding meanings common fieldCount
 host-count Kind.Location h = absurd (true≢false (sym h))
@@ -78,16 +82,12 @@ module _ (s : List ℕ) (spans : List Span) where
   host-ok : (kind : Kind) → Ready kind s spans → namesHost kind ≡ true → HostGood (wireOf (fieldAt (splitOn 58 s) 0)) (fieldAt (splitOn 58 s) 2) (middleOf kind)
   unfolding meanings common joinedNames middleOf ns mx srv faultOf
   host-ok Kind.Location r h = absurd (true≢false (sym h))
-  host-ok Kind.Zone r h =
-      record { named = named-done _ (done s spans Kind.Zone r .1 .1 .0); label = host-short _ (done s spans Kind.Zone r .1 .1 .0); small = omega arith; short = all-head (joined-short s spans Kind.Zone r) }
-  host-ok Kind.Delegation r h =
-      record { named = named-done _ (done s spans Kind.Delegation r .1 .1 .0); label = host-short _ (done s spans Kind.Delegation r .1 .1 .0); small = omega arith; short = all-head (joined-short s spans Kind.Delegation r) }
+  host-ok Kind.Zone r h = good-host _ _ _ (omega arith) (done s spans Kind.Zone r .1 .1 .0) (all-head (joined-short s spans Kind.Zone r))
+  host-ok Kind.Delegation r h = good-host _ _ _ (omega arith) (done s spans Kind.Delegation r .1 .1 .0) (all-head (joined-short s spans Kind.Delegation r))
   host-ok Kind.Host r h = absurd (true≢false (sym h))
   host-ok Kind.Alias r h = absurd (true≢false (sym h))
-  host-ok Kind.Mail r h =
-      record { named = named-done _ (done s spans Kind.Mail r .1 .1 .0); label = host-short _ (done s spans Kind.Mail r .1 .1 .0); small = omega arith; short = all-head (joined-short s spans Kind.Mail r) }
-  host-ok Kind.Service r h =
-      record { named = named-done _ (done s spans Kind.Service r .1 .1 .0); label = host-short _ (done s spans Kind.Service r .1 .1 .0); small = omega arith; short = all-head (joined-short s spans Kind.Service r) }
+  host-ok Kind.Mail r h = good-host _ _ _ (omega arith) (done s spans Kind.Mail r .1 .1 .0) (all-head (joined-short s spans Kind.Mail r))
+  host-ok Kind.Service r h = good-host _ _ _ (omega arith) (done s spans Kind.Service r .1 .1 .0) (all-head (joined-short s spans Kind.Service r))
   host-ok Kind.Text r h = absurd (true≢false (sym h))
   host-ok Kind.Pointer r h = absurd (true≢false (sym h))
   host-ok Kind.Canonical r h = absurd (true≢false (sym h))
