@@ -5,10 +5,9 @@ use std::process::ExitCode;
 
 use compare::reading::Reading;
 use compare::tally::Tally;
-use compare::{cases, edges};
+use compare::{cases, edges, reading};
 
-include!(concat!(env!("OUT_DIR"), "/mutants.rs"));
-
+const MUTANTS: &[Reading] = copies::each!(reading);
 const SEED: u64 = 1;
 /// A part of what the comparison itself runs.
 const MOST_CASES: u64 = 30_000;

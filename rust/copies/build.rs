@@ -1,4 +1,4 @@
-//! Makes a copy of the second implementation for each mutant of `edits.txt`,
+//! Makes a copy of the second implementation for each mistake of `edits.txt`,
 //! as a module, and edits it. The implementation itself stays free of hooks.
 
 use std::env;
@@ -55,13 +55,17 @@ fn main() {
         let path = folder.join("mod.rs");
         writeln!(
             modules,
-            "#[allow(warnings, clippy::all)]\n#[path = {path:?}]\nmod {module};"
+            "#[allow(warnings, clippy::all)]\n#[path = {path:?}]\npub mod {module};"
         )
         .unwrap();
-        writeln!(list, "    compare::reading!({:?}, {module}),", mutant.title).unwrap();
+        let title = &mutant.title;
+        writeln!(list, "        $make!({title:?}, copies::{module}),").unwrap();
     }
-    let code = format!("{modules}\nconst MUTANTS: &[Reading] = &[\n{list}];\n");
-    fs::write(out.join("mutants.rs"), code).expect("the list");
+    let code = format!(
+        "{modules}\n/// A slice of what a macro makes of each copy's title and module.\n\
+         #[macro_export]\nmacro_rules! each {{\n    ($make:ident) => {{ &[\n{list}    ] }};\n}}\n"
+    );
+    fs::write(out.join("copies.rs"), code).expect("the list");
 }
 
 /// Reads the edits: `= title` begins a mutant, `@ file` an edit of it, lines
