@@ -1,4 +1,5 @@
 pub mod SeenRecords
+pub mod Los
 pub mod Meanings
 pub mod ByKeys
 pub mod KnownRecords

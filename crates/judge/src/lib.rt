@@ -1,16 +1,17 @@
 // What the key and the data of one record say. Each function that judges has one caller or is small, so that a stream is judged without calls.
 ghost use mathlib.Core.Path.{_≡_};
 ghost use mathlib.Core.Bool.{_&&_};
+ghost use mathlib.Core.List.{[], _∷_};
 ghost use Prim.Native.Nat.{_≤_, _+_};
 ghost use lib.ListN.{length, drop, getD};
 ghost use lib.Dec.{leb, eqb};
-ghost use Rattle.rules.specs.Reading.{byFlag, resourceIn, locationIn, recordIn};
+ghost use Rattle.rules.specs.Reading.{isLo, byFlag, resourceIn, locationIn, recordIn};
 ghost use Rattle.judge.specs.Seen.{wildcardFlag, loFlag, flagIn, sharedIn, seenWith, seenRecord, fixedIn};
 
 pub mod known;
 
 use keys::is_good_key;
-use keys::is_lo;
+use letters::ascii::is_letter;
 use rules::quantities::Lo;
 use rules::quantities::Moment;
 use rules::quantities::Shared;
@@ -50,6 +51,19 @@ fn is_wildcard(flag: u8) -> bool
         return true;
     }
     flag == 43
+}
+
+// Whether two bytes are a lo: a letter, and a letter or 0.
+fn is_lo(a: u8, b: u8) -> bool
+    ensures { λ r. ⌜ r ≡ isLo (a ∷ b ∷ []) ⌝ }
+{
+    if !is_letter(a) {
+        return false;
+    }
+    if b == 0 {
+        return true;
+    }
+    is_letter(b)
 }
 
 // The lo behind the flag.

@@ -1,16 +1,15 @@
-// Names on the wire, as keys and questions have them, and lo.
+// Names on the wire, as keys and questions have them.
 ghost use mathlib.Core.Path.{_≡_};
-ghost use mathlib.Core.List.{[], _∷_};
 ghost use mathlib.Core.Bool.{_&&_};
 ghost use lib.Dec.{leb};
 ghost use Rattle.rules.specs.Names.{isWire};
-ghost use Rattle.rules.specs.Fields.{letter};
 ghost use Rattle.rules.specs.Bytes.{wild};
-ghost use Rattle.rules.specs.Reading.{lowered, isLo};
+ghost use Rattle.rules.specs.Reading.{lowered};
 ghost use Rattle.keys.specs.Keys.{goodKey};
 use wire::get::wide;
 
-// Whether bytes are a name on the wire. It goes from label to label.
+// Whether bytes are a name on the wire. It goes from label to label up to the last byte, which is known by its place: to read it nothing has
+// to be read before.
 pub fn is_wire(name: &[u8]) -> bool
     ensures { λ r. ⌜ r ≡ isWire (now (name .entry)) ⌝ }
 {
@@ -18,18 +17,25 @@ pub fn is_wire(name: &[u8]) -> bool
     if 255 < n {
         return false;
     }
+    if n == 0 {
+        return false;
+    }
+    let last = n - 1;
     let mut i: usize = 0;
-    while i < n {
+    while i < last {
         let label = wide(name[i]);
         if label == 0 {
-            return i + 1 == n;
+            return false;
         }
         if 63 < label {
             return false;
         }
         i = i + 1 + label as usize;
     }
-    false
+    if i != last {
+        return false;
+    }
+    name[last] == 0
 }
 
 // Whether a byte is one of A to Z.
@@ -110,33 +116,4 @@ pub fn is_good_key(key: &[u8], wild: bool) -> bool
         return false;
     }
     true
-}
-
-// Whether a byte is an ASCII letter.
-fn is_letter(b: u8) -> bool
-    ensures { λ r. ⌜ r ≡ letter b ⌝ }
-{
-    if b < 65 {
-        return false;
-    }
-    if b < 91 {
-        return true;
-    }
-    if b < 97 {
-        return false;
-    }
-    b < 123
-}
-
-// Whether two bytes are a lo: a letter, and a letter or 0.
-pub fn is_lo(a: u8, b: u8) -> bool
-    ensures { λ r. ⌜ r ≡ isLo (a ∷ b ∷ []) ⌝ }
-{
-    if !is_letter(a) {
-        return false;
-    }
-    if b == 0 {
-        return true;
-    }
-    is_letter(b)
 }

@@ -1,2 +1,3 @@
-// Letters lowered by a table.
+// ASCII letters: which they are, and lowered by a table.
+pub mod ascii;
 pub mod letters;

@@ -13,13 +13,16 @@ use lib.Seq.{drop-drop}
 use Rattle.rules.specs.Lists.{pick, fromLE}
 use Rattle.rules.specs.Records.{Record}
 use Rattle.rules.specs.Reading.{recordIn, ontoRecords, decodeOne, decodeFrom, decode}
-use Rattle.keys.proofs.Labels.{leb-is}
 use Rattle.stream.specs.Heads.{keyLength, dataLength, sizeAt, fits, headOf, keyAt, dataAt, recordAt}
 use Rattle.stream.specs.declared.Head.the-variants.{Whole, Broken}
 
 both-right : (a b : Bool) → (a && b) ≡ true → b ≡ true
 both-right true b e = e
 both-right false b e = let z : _≡_ {A = ℕ} 0 1 = cc in absurd (omega arith)
+
+leb-is : (a b : ℕ) (t : Bool) → (t ≡ true → a ≤ b) → (t ≡ false → b < a) → t ≡ leb a b
+leb-is a b true f g = sym (le-leb a b (f refl))
+leb-is a b false f g = sym (lt-leb a b (g refl))
 
 -- ---- the head, as the code finds it
 

@@ -1,6 +1,6 @@
-use Rattle.keys.proofs.Labels.{letter-lower, letter·laws}
-use Rattle.keys.proofs.is_letter.Statement.{statement}
-use Rattle.keys.proofs.is_letter.Tie as tie
+use Rattle.letters.proofs.Cases.{letter·laws}
+use Rattle.letters.proofs.ascii.is_letter.Statement.{statement}
+use Rattle.letters.proofs.ascii.is_letter.Tie as tie
 
 returns : tie.Need-returns
 returns c = search letter·laws
@@ -12,7 +12,7 @@ returns-3 : tie.Need-returns-3
 returns-3 c = search letter·laws
 
 returns-4 : tie.Need-returns-4
-returns-4 c = letter-lower _ (c .if3 .left)
+returns-4 c = search letter·laws
 
 pub is-letter-spec : {M : Type 1} → statement M
 is-letter-spec = tie.close (tie.spec returns returns-2 returns-3 returns-4)

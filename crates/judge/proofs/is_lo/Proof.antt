@@ -1,6 +1,6 @@
-use Rattle.keys.proofs.Labels.{two-letters, lo·laws}
-use Rattle.keys.proofs.is_lo.Statement.{statement}
-use Rattle.keys.proofs.is_lo.Tie as tie
+use Rattle.judge.proofs.Los.{two-letters, lo·laws}
+use Rattle.judge.proofs.is_lo.Statement.{statement}
+use Rattle.judge.proofs.is_lo.Tie as tie
 
 is-letter-requires : tie.Need-is-letter-requires
 is-letter-requires c κs = search lo·laws
