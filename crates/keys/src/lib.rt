@@ -99,14 +99,15 @@ fn is_wild(key: &[u8]) -> bool
     key[1] == 42
 }
 
-// Whether a key is a name that a record, or a wildcard record, can have.
+// Whether a key is a name that a record, or a wildcard record, can have. Letters first: behind is_wire the last byte would be known, and the
+// last 16 no longer looked at together.
 pub fn is_good_key(key: &[u8], wild: bool) -> bool
     ensures { λ r. ⌜ r ≡ goodKey wild (now (key .entry)) ⌝ }
 {
-    if !is_wire(key) {
+    if !is_lowered(key) {
         return false;
     }
-    if !is_lowered(key) {
+    if !is_wire(key) {
         return false;
     }
     if !wild {

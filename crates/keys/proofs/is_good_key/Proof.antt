@@ -2,14 +2,14 @@ use Rattle.keys.proofs.GoodKeys.{key·laws}
 use Rattle.keys.proofs.is_good_key.Statement.{statement}
 use Rattle.keys.proofs.is_good_key.Tie as tie
 
-is-wire-requires : tie.Need-is-wire-requires
-is-wire-requires c κs = search key·laws
+is-lowered-requires : tie.Need-is-lowered-requires
+is-lowered-requires c κs = search key·laws
 
 returns : tie.Need-returns
 returns c = search key·laws
 
-is-lowered-requires : tie.Need-is-lowered-requires
-is-lowered-requires c κs = search key·laws
+is-wire-requires : tie.Need-is-wire-requires
+is-wire-requires c κs = search key·laws
 
 returns-2 : tie.Need-returns-2
 returns-2 c = search key·laws
@@ -30,9 +30,9 @@ pub is-good-key-spec : {M : Type 1} → statement M
 is-good-key-spec =
     tie.close
     (tie.spec
-    is-wire-requires
-    returns
     is-lowered-requires
+    returns
+    is-wire-requires
     returns-2
     is-wild-requires
     returns-3
