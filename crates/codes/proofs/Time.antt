@@ -11,8 +11,8 @@ use mir.Val.{Fits}
 use mir.Syntax.{w64}
 use Rattle.rules.specs.Lists.{pick}
 use Rattle.rules.specs.Fields.{lowerHexDigit, timeOf}
-use Rattle.numbers.specs.Views.{hexOr}
-use Rattle.numbers.proofs.HexDigit.{Hex, begin, taken, refused, all-good, all-worth, is-digit, no-digit, more-digits, times-fits, more-fits}
+use Rattle.digits.specs.Digits.{hexOr}
+use Rattle.digits.proofs.HexDigit.{Hex, begin, taken, refused, all-good, all-worth, is-digit, no-digit, more-digits, times-fits, more-fits}
 
 pub other-length : (s : List ℕ) → (length s ≡ 16 → ⊥) → none ≡ timeOf s
 unfolding timeOf pick

@@ -2,7 +2,7 @@
 ghost use mathlib.Core.Path.{_≡_};
 ghost use Rattle.rules.specs.Fields.{timeOf};
 ghost use Rattle.codes.specs.Views.{timeRead};
-use numbers::hex::hex_digit;
+use digits::hex::hex_digit;
 use rules::quantities::Moment;
 
 pub enum TimeRead {

@@ -1,7 +1,7 @@
 use Prim.Native.Nat.{_-_, _^_, _<_, _≤_}
 use lib.ListN.{length}
 use Rattle.rules.specs.Fields.{lowerHexDigit}
-use Rattle.numbers.proofs.HexDigit.{Hex}
+use Rattle.digits.proofs.HexDigit.{Hex}
 use Rattle.codes.proofs.Time.{time·laws}
 use Rattle.codes.proofs.times.time.Statement.{statement}
 use Rattle.codes.proofs.times.time.Tie as tie

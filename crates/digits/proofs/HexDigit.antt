@@ -15,7 +15,7 @@ use mir.Syntax.{w64}
 use Rattle.rules.specs.Lists.{pick, all, lower}
 use Rattle.rules.specs.Fields.{digit, lowerHexDigit, hexValue, hexFrom}
 use Rattle.wire.proofs.Steps.{left-at}
-use Rattle.numbers.specs.Views.{hexOr}
+use Rattle.digits.specs.Digits.{hexOr}
 
 module _ (b : ℕ) where
   pub below-digits : b < 48 → 16 ≡ hexOr 16 b

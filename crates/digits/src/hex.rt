@@ -1,6 +1,6 @@
 // Hexadecimal digits.
 ghost use mathlib.Core.Path.{_≡_};
-ghost use Rattle.numbers.specs.Views.{hexOr};
+ghost use Rattle.digits.specs.Digits.{hexOr};
 
 // The value of a digit whose letters are in lower case; 16 for any other byte.
 pub fn hex_digit(b: u8) -> u64

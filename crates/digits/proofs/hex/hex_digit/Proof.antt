@@ -1,6 +1,6 @@
-use Rattle.numbers.proofs.HexDigit.{hex·laws}
-use Rattle.numbers.proofs.hex.hex_digit.Statement.{statement}
-use Rattle.numbers.proofs.hex.hex_digit.Tie as tie
+use Rattle.digits.proofs.HexDigit.{hex·laws}
+use Rattle.digits.proofs.hex.hex_digit.Statement.{statement}
+use Rattle.digits.proofs.hex.hex_digit.Tie as tie
 
 returns : tie.Need-returns
 returns c = search hex·laws
