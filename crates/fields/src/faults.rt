@@ -7,8 +7,6 @@ use addresses::addresses::address;
 use addresses::addresses::prefix;
 use codes::codes::LoRead;
 use codes::codes::lo;
-use codes::times::TimeRead;
-use codes::times::time;
 use escapes::texts::TextJudged;
 use escapes::texts::judge_text;
 use names::names::NameJudged;
@@ -18,6 +16,8 @@ use numbers::numbers::number;
 use rules::faults::Fault;
 use rules::faults::FieldKind;
 use rules::kinds::Meaning;
+use times::times::TimeRead;
+use times::times::time;
 
 fn name_fault(text: &[u8]) -> Fault
     ensures { λ r. ⌜ r ≡ nameFault (nameOf (now (text .entry))) ⌝ }

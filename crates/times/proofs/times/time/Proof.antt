@@ -2,9 +2,9 @@ use Prim.Native.Nat.{_-_, _^_, _<_, _≤_}
 use lib.ListN.{length}
 use Rattle.rules.specs.Fields.{lowerHexDigit}
 use Rattle.digits.proofs.HexDigit.{Hex}
-use Rattle.codes.proofs.Time.{time·laws}
-use Rattle.codes.proofs.times.time.Statement.{statement}
-use Rattle.codes.proofs.times.time.Tie as tie
+use Rattle.times.proofs.Time.{time·laws}
+use Rattle.times.proofs.times.time.Statement.{statement}
+use Rattle.times.proofs.times.time.Tie as tie
 
 abbrev Inv-loop : tie.InvT-loop
 Inv-loop text n value₀ i₀ value i = (i ≤ length text) × (value < 16 ^ i) × Hex lowerHexDigit text value i

@@ -1,7 +1,7 @@
 // time: a second as 16 hexadecimal digits.
 ghost use mathlib.Core.Path.{_≡_};
 ghost use Rattle.rules.specs.Fields.{timeOf};
-ghost use Rattle.codes.specs.Views.{timeRead};
+ghost use Rattle.times.specs.Views.{timeRead};
 use digits::hex::hex_digit;
 use rules::quantities::Moment;
 
