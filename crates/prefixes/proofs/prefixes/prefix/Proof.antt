@@ -1,6 +1,6 @@
-use Rattle.addresses.proofs.Address.{prefix·laws}
-use Rattle.addresses.proofs.addresses.prefix.Statement.{statement}
-use Rattle.addresses.proofs.addresses.prefix.Tie as tie
+use Rattle.prefixes.proofs.Prefix.{prefix·laws}
+use Rattle.prefixes.proofs.prefixes.prefix.Statement.{statement}
+use Rattle.prefixes.proofs.prefixes.prefix.Tie as tie
 
 returns : tie.Need-returns
 returns c = search prefix·laws
