@@ -1,9 +1,9 @@
 use Rattle.rules.specs.Lists.{pick}
 use Rattle.rules.specs.Names.{nameByte}
 use Rattle.wire.proofs.Steps.{tests}
-use Rattle.names.specs.NameCounts.{byteKind}
-use Rattle.names.proofs.names.kind_of_byte.Statement.{statement}
-use Rattle.names.proofs.names.kind_of_byte.Tie as tie
+use Rattle.judged_names.specs.NameCounts.{byteKind}
+use Rattle.judged_names.proofs.judged.kind_of_byte.Statement.{statement}
+use Rattle.judged_names.proofs.judged.kind_of_byte.Tie as tie
 
 returns : tie.Need-returns
 unfolding byteKind nameByte pick

@@ -5,8 +5,8 @@ use lib.Dec.{leb, eqb}
 use Rattle.rules.specs.Lists.{pick}
 use Rattle.rules.specs.Names.{nameByte, longestName}
 use Rattle.rules.specs.declared.faults.NameFault.{NameFault}
-use Rattle.names.specs.declared.names.ByteKind.{ByteKind}
-use Rattle.names.specs.declared.names.NameJudged.{NameJudged}
+use Rattle.judged_names.specs.declared.judged.ByteKind.{ByteKind}
+use Rattle.judged_names.specs.declared.judged.NameJudged.{NameJudged}
 
 unfoldable pub byteKind : ℕ → ByteKind
 byteKind b = pick (eqb b 46) ByteKind.Dot (pick (nameByte b) ByteKind.Plain ByteKind.Other)

@@ -1,9 +1,9 @@
 use Rattle.rules.specs.Lists.{pick}
 use Rattle.rules.specs.Names.{longestName}
 use Rattle.wire.proofs.Steps.{tests}
-use Rattle.names.specs.NameCounts.{judgedSize}
-use Rattle.names.proofs.names.sized.Statement.{statement}
-use Rattle.names.proofs.names.sized.Tie as tie
+use Rattle.judged_names.specs.NameCounts.{judgedSize}
+use Rattle.judged_names.proofs.judged.sized.Statement.{statement}
+use Rattle.judged_names.proofs.judged.sized.Tie as tie
 
 returns : tie.Need-returns
 unfolding judgedSize longestName pick

@@ -1,8 +1,8 @@
 use Prim.Native.Nat.{_+_, _-_, _≤_}
 use lib.ListN.{length}
-use Rattle.names.proofs.Name.{Going, name·laws}
-use Rattle.names.proofs.names.judge_name.Statement.{statement}
-use Rattle.names.proofs.names.judge_name.Tie as tie
+use Rattle.judged_names.proofs.Name.{Going, name·laws}
+use Rattle.judged_names.proofs.judged.judge_name.Statement.{statement}
+use Rattle.judged_names.proofs.judged.judge_name.Tie as tie
 
 abbrev Inv-loop : tie.InvT-loop
 Inv-loop text n closed₀ begun₀ i₀ closed begun i = (i ≤ length text) × (closed + begun ≤ i) × Going text closed begun i

@@ -1,6 +1,6 @@
 -- A name judged by counts is the name that the rules read; and how a turn of the loop takes one byte, and each way out ends it.
 use mathlib.Core.Path.{_≡_, refl, ap, _∙_, sym}
-use mathlib.Core.Bool.{Bool, true, false, and-true, and-false}
+use mathlib.Core.Bool.{Bool, true, false, and-true}
 use mathlib.Core.List.{List, [], _∷_, _++_}
 use Prim.Native.Nat.{ℕ, suc, _+_, _<_, _≤_}
 use native.Mathlib.Nat.{add-zero}
@@ -14,10 +14,10 @@ use Rattle.rules.specs.Lists.{pick, sameBytes}
 use Rattle.rules.specs.Names.{NameRead, named, misnamed, nameByte, label, longestName, ifNotTooLong, nameFrom, nameOf}
 use Rattle.rules.specs.declared.faults.NameFault.{NameFault}
 use Rattle.wire.proofs.Steps.{left-at}
-use Rattle.names.specs.Views.{judgedOf}
-use Rattle.names.specs.NameCounts.{byteKind, byKind, labelRoom, judgedSize, judgedFrom}
-use Rattle.names.specs.declared.names.ByteKind.{ByteKind}
-use Rattle.names.specs.declared.names.NameJudged.{NameJudged}
+use Rattle.judged_names.specs.Views.{judgedOf}
+use Rattle.judged_names.specs.NameCounts.{byteKind, byKind, labelRoom, judgedSize, judgedFrom}
+use Rattle.judged_names.specs.declared.judged.ByteKind.{ByteKind}
+use Rattle.judged_names.specs.declared.judged.NameJudged.{NameJudged}
 
 pub label-length : (begun : List ℕ) → length (label begun) ≡ labelRoom (length begun)
 unfolding label labelRoom pick
@@ -109,11 +109,5 @@ unfolding sameBytes
 one-byte [] h = absurd (omega arith)
 one-byte (b ∷ []) h = sym (and-true (eqb b 46))
 one-byte (b ∷ c ∷ s) h = absurd (omega arith)
-
-pub not-one : (s : List ℕ) → (length s ≡ 1 → ⊥) → false ≡ sameBytes s (46 ∷ [])
-unfolding sameBytes
-not-one [] h = refl
-not-one (b ∷ []) h = absurd (h refl)
-not-one (b ∷ c ∷ s) h = sym (and-false (eqb b 46))
 
 pub ruleset name·laws = (needs, begin, root, empty-label, after-dot, long-label, after-plain, bad-byte, at-dot, at-label)
