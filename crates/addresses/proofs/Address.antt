@@ -1,4 +1,4 @@
--- The laws of an address and a prefix, from what their numbers and groups tell.
+-- The laws of an address, from what its numbers or groups tell.
 use mathlib.Core.Path.{_≡_, refl, ap, _∙_, sym}
 use mathlib.Core.Bool.{Bool, true, false, _&&_, true≢false, and-true, and-false}
 use mathlib.Core.List.{List, [], _∷_, map}
@@ -11,11 +11,11 @@ use lib.Dec.{leb, eqb}
 use lib.ListN.{length, getD, take, set, length-set}
 use lib.Seq.{take-all}
 use Rattle.rules.specs.Lists.{pick, has, all, joinAll, splitOn, be}
-use Rattle.rules.specs.Fields.{octet, octetByte, addressIf, addressOf, prefixOf}
+use Rattle.rules.specs.Fields.{octet, octetByte, addressIf, addressOf}
 use Rattle.octets.specs.Octets.{octetsRead, IsOctets}
 use Rattle.octets.proofs.Taken.{good-by, bad-by}
 use Rattle.groups.specs.Groups.{groupsBytes, groupsRead, IsGroups}
-use Rattle.addresses.specs.Addresses.{dottedAddress, groupedAddress, addressRead, IsAddress, prefixRead, IsPrefix}
+use Rattle.addresses.specs.Addresses.{dottedAddress, groupedAddress, addressRead, IsAddress}
 use Rattle.addresses.specs.declared.addresses.AddressRead.{AddressRead}
 use Rattle.groups.specs.declared.groups.GroupsRead.{GroupsRead}
 use Rattle.octets.specs.declared.octets.OctetsRead.{OctetsRead}
@@ -80,22 +80,7 @@ module _ (s : List ℕ) (o : OctetsRead) (e : IsOctets s o) where
   pub not-four : (b : List ℕ) → (o .count ≡ 4 → ⊥) → length b ≡ 16 → IsAddress (dottedAddress s) (record { bytes = b; len = 0 })
   not-four b c l = no-address (dottedAddress s) b (not-four-by (o .good) refl c) l
 
-  pub some-prefix : (length s ≡ 0 → ⊥) → IsPrefix (prefixOf s) (record { bytes = o .bytes; len = o .count; good = o .good })
-  unfolding octetsRead prefixRead prefixOf
-  some-prefix h = record { says = e .says ∙ full s h; few = e .few; long = e .long }
-    where
-      full : (t : List ℕ) → (length t ≡ 0 → ⊥) → addressIf (leb (length (splitOn 46 t)) 4) octet octetByte (splitOn 46 t) ≡ prefixOf t
-      full [] h = absurd (h refl)
-      full (b ∷ t) h = refl
-
 pub ruleset dotted·laws = (four, not-four, needs)
-
-pub no-prefix : (s b : List ℕ) → length s ≡ 0 → length b ≡ 4 → IsPrefix (prefixOf s) (record { bytes = b; len = 0; good = true })
-unfolding prefixRead prefixOf pick
-no-prefix [] b h l = record { says = refl; few = omega arith; long = l }
-no-prefix (x ∷ s) b h l = absurd (omega arith)
-
-pub ruleset prefix·laws = (no-prefix, some-prefix, needs)
 
 groups-length : (gs : List ℕ) → length (groupsBytes gs) ≡ 2 * length gs
 unfolding groupsBytes joinAll be

@@ -1,4 +1,4 @@
--- What the readers of addresses promise.
+-- What the reader of an address promises.
 use mathlib.Core.Path.{_≡_}
 use mathlib.Core.List.{List}
 use mathlib.Core.Option.{Option, none, some}
@@ -8,7 +8,6 @@ use lib.ListN.{length, take}
 use Rattle.rules.specs.Lists.{pick, splitOn}
 use Rattle.rules.specs.Fields.{octet, octetByte, group, groupBytes, addressIf}
 use Rattle.addresses.specs.declared.addresses.AddressRead.{AddressRead}
-use Rattle.addresses.specs.declared.addresses.PrefixRead.{PrefixRead}
 
 -- the two forms of an address
 unfoldable pub dottedAddress : List ℕ → Option (List ℕ)
@@ -26,11 +25,3 @@ pub record IsAddress (value : Option (List ℕ)) (r : AddressRead) : Type 0 wher
   pub sizes : (r .len ≡ 0 → ⊥) → (r .len ≡ 4 → ⊥) → r .len ≡ 16
   pub few : r .len ≤ 16
   pub long : length (r .bytes) ≡ 16
-
-unfoldable pub prefixRead : PrefixRead → Option (List ℕ)
-prefixRead r = pick (r .good) (some (take (r .len) (r .bytes))) none
-
-pub record IsPrefix (value : Option (List ℕ)) (r : PrefixRead) : Type 0 where
-  pub says : prefixRead r ≡ value
-  pub few : r .len ≤ 4
-  pub long : length (r .bytes) ≡ 4

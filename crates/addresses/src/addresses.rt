@@ -1,6 +1,6 @@
-// ip and prefix.
-ghost use Rattle.rules.specs.Fields.{addressOf, prefixOf};
-ghost use Rattle.addresses.specs.Addresses.{dottedAddress, groupedAddress, IsAddress, IsPrefix};
+// ip.
+ghost use Rattle.rules.specs.Fields.{addressOf};
+ghost use Rattle.addresses.specs.Addresses.{dottedAddress, groupedAddress, IsAddress};
 use crate::groups_bytes::address_bytes;
 use groups::groups::groups;
 use octets::octets::octets;
@@ -10,13 +10,6 @@ use pieces::pieces::has_byte;
 pub struct AddressRead {
     pub bytes: [u8; 16],
     pub len: usize,
-}
-
-// The first len bytes, where they are good.
-pub struct PrefixRead {
-    pub bytes: [u8; 4],
-    pub len: usize,
-    pub good: bool,
 }
 
 // Four numbers joined by dots.
@@ -60,23 +53,4 @@ pub fn address(text: &[u8]) -> AddressRead
         return grouped_address(text);
     }
     dotted_address(text)
-}
-
-// None to four numbers.
-pub fn prefix(text: &[u8]) -> PrefixRead
-    ensures { λ r. ⌜ IsPrefix (prefixOf (now (text .entry))) r ⌝ }
-{
-    if text.len() == 0 {
-        let bytes = [0u8; 4];
-        return PrefixRead {
-            bytes,
-            len: 0,
-            good: true,
-        };
-    }
-    let read = octets(text);
-    let bytes = read.bytes;
-    let len = read.count;
-    let good = read.good;
-    PrefixRead { bytes, len, good }
 }

@@ -1,3 +1,3 @@
-// Addresses and prefixes.
+// Addresses.
 pub mod addresses;
 mod groups_bytes;

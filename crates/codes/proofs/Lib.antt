@@ -1,2 +1,1 @@
-pub mod Letter
-pub mod Time
+pub mod Los

@@ -1,28 +1,14 @@
 // lo: one or two letters.
 ghost use mathlib.Core.Path.{_≡_};
 ghost use mathlib.Core.List.{[], _∷_};
-ghost use Rattle.rules.specs.Fields.{letter, loOf};
+ghost use Rattle.rules.specs.Fields.{loOf};
 ghost use Rattle.codes.specs.Views.{loRead};
+use letters::ascii::is_letter;
 use rules::quantities::Lo;
 
 pub enum LoRead {
     Good(Lo),
     Bad,
-}
-
-fn is_letter(b: u8) -> bool
-    ensures { λ r. ⌜ r ≡ letter b ⌝ }
-{
-    if b < 65 {
-        return false;
-    }
-    if b <= 90 {
-        return true;
-    }
-    if b < 97 {
-        return false;
-    }
-    b <= 122
 }
 
 // A code of one letter has 0 for its second byte.

@@ -1,3 +1,2 @@
-// lo and time.
+// lo.
 pub mod codes;
-pub mod times;

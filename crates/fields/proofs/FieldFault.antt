@@ -16,12 +16,13 @@ use Rattle.rules.specs.declared.faults.FieldKind.{FieldKind}
 use Rattle.rules.specs.declared.faults.NameFault.{NameFault}
 use Rattle.rules.specs.declared.kinds.Meaning.{Meaning}
 use Rattle.numbers.specs.Views.{numberRead}
-use Rattle.names.specs.Views.{judgedOf}
+use Rattle.judged_names.specs.Views.{judgedOf}
 use Rattle.escapes.specs.Views.{textJudged}
-use Rattle.addresses.specs.Addresses.{addressRead, IsAddress, prefixRead, IsPrefix}
+use Rattle.addresses.specs.Addresses.{addressRead, IsAddress}
 use Rattle.addresses.specs.declared.addresses.AddressRead.{AddressRead}
-use Rattle.addresses.specs.declared.addresses.PrefixRead.{PrefixRead}
-use Rattle.names.specs.declared.names.NameJudged.{NameJudged}
+use Rattle.prefixes.specs.Prefixes.{prefixRead, IsPrefix}
+use Rattle.prefixes.specs.declared.prefixes.PrefixRead.{PrefixRead}
+use Rattle.judged_names.specs.declared.judged.NameJudged.{NameJudged}
 use Rattle.numbers.specs.declared.numbers.NumberRead.{NumberRead}
 use Rattle.escapes.specs.declared.texts.TextJudged.{TextJudged}
 

@@ -14,9 +14,10 @@ use Rattle.rules.specs.Fields.{unless, nameFault, needed}
 use Rattle.rules.specs.declared.faults.Fault.{Fault}
 use Rattle.rules.specs.declared.faults.FieldKind.{FieldKind}
 use Rattle.rules.specs.declared.faults.NameFault.{NameFault}
-use Rattle.names.specs.Views.{judgedOf, isNamed}
+use Rattle.judged_names.specs.Views.{judgedOf}
+use Rattle.names.specs.Views.{isNamed}
 use Rattle.escapes.specs.Views.{textJudged}
-use Rattle.names.specs.declared.names.NameJudged.{NameJudged}
+use Rattle.judged_names.specs.declared.judged.NameJudged.{NameJudged}
 use Rattle.escapes.specs.declared.texts.TextJudged.{TextJudged}
 
 -- a name that was judged

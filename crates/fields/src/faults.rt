@@ -4,20 +4,20 @@ ghost use Rattle.rules.specs.Names.{nameOf};
 ghost use Rattle.rules.specs.Fields.{numberOf, largestShort, addressOf, prefixOf, timeOf, loOf, textOf, unless, nameFault, needed, optional, reserved, typeFault, faultOf};
 ghost use Rattle.rules.specs.declared.faults.FieldKind.{FieldKind};
 use addresses::addresses::address;
-use addresses::addresses::prefix;
 use codes::codes::LoRead;
 use codes::codes::lo;
-use codes::times::TimeRead;
-use codes::times::time;
 use escapes::texts::TextJudged;
 use escapes::texts::judge_text;
-use names::names::NameJudged;
-use names::names::judge_name;
+use judged_names::judged::NameJudged;
+use judged_names::judged::judge_name;
 use numbers::numbers::NumberRead;
 use numbers::numbers::number;
+use prefixes::prefixes::prefix;
 use rules::faults::Fault;
 use rules::faults::FieldKind;
 use rules::kinds::Meaning;
+use times::times::TimeRead;
+use times::times::time;
 
 fn name_fault(text: &[u8]) -> Fault
     ensures { λ r. ⌜ r ≡ nameFault (nameOf (now (text .entry))) ⌝ }

@@ -13,10 +13,10 @@ use mir.Val.{Fits}
 use mir.Syntax.{w64}
 use Rattle.rules.specs.Lists.{pick, lower}
 use Rattle.rules.specs.Fields.{digit, lowerHexDigit, hexValue, hexFrom, group}
-use Rattle.numbers.specs.Views.{hexOr}
+use Rattle.digits.specs.Digits.{hexOr}
 use Rattle.numbers.specs.declared.numbers.NumberRead.{NumberRead}
 use Rattle.octets.specs.Octets.{IsPiece}
-use Rattle.numbers.proofs.HexDigit.{Hex, begin, taken, refused, all-good, all-worth, is-digit, no-digit, more-digits, times-fits, more-fits}
+use Rattle.digits.proofs.HexDigit.{Hex, begin, taken, refused, all-good, all-worth, is-digit, no-digit, more-digits, times-fits, more-fits}
 
 abbrev pub anyCase : ℕ → Bool
 anyCase b = lowerHexDigit (lower b)

@@ -2,7 +2,7 @@
 ghost use Rattle.rules.specs.Fields.{hexFrom, group};
 ghost use Rattle.octets.specs.Octets.{IsPiece};
 ghost use Rattle.groups.specs.Groups.{IsGroups};
-use numbers::hex::hex_digit;
+use digits::hex::hex_digit;
 use numbers::numbers::NumberRead;
 use pieces::pieces::piece_end;
 

@@ -20,8 +20,8 @@ use Rattle.rules.specs.declared.faults.NameFault.{NameFault}
 use Rattle.rules.specs.declared.kinds.Kind.{Kind}
 use Rattle.rules.proofs.Names.{Wire, OnName, name-ok, short-of}
 use Rattle.rules.proofs.Lists.{split-short, all-fields}
-use Rattle.names.specs.Views.{judgedOf}
-use Rattle.names.specs.declared.names.NameJudged.{NameJudged}
+use Rattle.judged_names.specs.Views.{judgedOf}
+use Rattle.judged_names.specs.declared.judged.NameJudged.{NameJudged}
 use Rattle.joined.specs.Joined.{middleSize, contactSize, hostSize, ifShort}
 
 -- ---- the size of a name

@@ -18,8 +18,8 @@ use Rattle.rules.specs.declared.faults.FieldKind.{FieldKind}
 use Rattle.rules.specs.declared.kinds.Kind.{Kind}
 use Rattle.rules.specs.declared.quantities.Lo.{Lo}
 use Rattle.buffer.specs.Put.{IsPut}
-use Rattle.addresses.specs.Addresses.{prefixRead, IsPrefix}
-use Rattle.addresses.specs.declared.addresses.PrefixRead.{PrefixRead}
+use Rattle.prefixes.specs.Prefixes.{prefixRead, IsPrefix}
+use Rattle.prefixes.specs.declared.prefixes.PrefixRead.{PrefixRead}
 use Rattle.splits.specs.declared.splits.Span.{Span}
 use Rattle.heads.proofs.Whole.{encode-length, location-size}
 use Rattle.values.specs.Ready.{Ready}

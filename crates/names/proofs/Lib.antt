@@ -1,3 +1,2 @@
 pub mod Holding
-pub mod Name
 pub mod Wire

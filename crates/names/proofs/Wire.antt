@@ -16,6 +16,7 @@ use Rattle.rules.specs.Lists.{pick, sameBytes}
 use Rattle.rules.specs.Names.{NameRead, named, misnamed, nameByte, label, longestName, ifNotTooLong, nameFrom, nameOf, wireIn, wireOf}
 use Rattle.rules.specs.declared.faults.NameFault.{NameFault}
 use Rattle.buffer.specs.Put.{IsPut}
+use Rattle.wire.proofs.Compare.{other-length, same-next, differs, same-end}
 use Rattle.wire.proofs.Steps.{left-at, take-put}
 use Rattle.names.specs.Views.{isNamed}
 use Rattle.buffer.proofs.Front.{put-by, on}
@@ -96,30 +97,38 @@ pub record Putting (s d out : List ℕ) (start i : ℕ) : Type 0 where
   pub going : nameOf s ≡ nameFrom (take start out) (labelAt out start i) i (drop i s)
   pub behind : drop (i + 1) out ≡ drop (i + 1) d
 
-module _ (s d : List ℕ) (r : Bool) (p : r ≡ sameBytes s (46 ∷ [])) where
-  pub begin : r ≡ false → Putting s d d 0 0
-  unfolding nameOf pick
-  begin q = record { going = rw (← p, q, slice-empty 1 d); behind = refl }
+-- one byte that is not a dot
+pub other-byte : (s : List ℕ) → length s ≡ 1 → (getD s 0 0 ≡ 46 → ⊥) → false ≡ sameBytes s (46 ∷ [])
+other-byte s l q = differs s (46 ∷ []) 0 refl (omega arith) l q
 
-  pub room : isNamed (nameOf s) ≡ true → length (wireOf s) ≤ length d → r ≡ false → length s + 1 ≤ length d
-  unfolding wireOf
-  room n h q =
-      let e = begin q .going in
-      let l = long s (take 0 d) (labelAt d 0 0) 0 (ap isNamed (sym e) ∙ n) in
-      let w : length (wireIn (nameOf s)) ≡ length (wireIn (nameFrom (take 0 d) (labelAt d 0 0) 0 s)) = ap (λ (x : NameRead). length (wireIn x)) e in
-      omega arith
+module _ (s d : List ℕ) where
+  -- a text that is not a dot alone
+  module _ (p : false ≡ sameBytes s (46 ∷ [])) where
+    pub begin : Putting s d d 0 0
+    unfolding nameOf pick
+    begin = record { going = rw (← p, slice-empty 1 d); behind = refl }
 
-  root-is : r ≡ true → wireOf s ≡ 0 ∷ []
-  unfolding wireOf wireIn nameOf pick
-  root-is q = rw (← p, q)
+    pub room : isNamed (nameOf s) ≡ true → length (wireOf s) ≤ length d → length s + 1 ≤ length d
+    unfolding wireOf
+    room n h =
+        let e = begin .going in
+        let l = long s (take 0 d) (labelAt d 0 0) 0 (ap isNamed (sym e) ∙ n) in
+        let w : length (wireIn (nameOf s)) ≡ length (wireIn (nameFrom (take 0 d) (labelAt d 0 0) 0 s)) = ap (λ (x : NameRead). length (wireIn x)) e in
+        omega arith
 
-  pub root-room : r ≡ true → length (wireOf s) ≤ length d → 0 < length d
-  root-room q h = let w = ap length (root-is q) in omega arith
+  -- a dot alone
+  module _ (l : length s ≡ 1) (q : getD s 0 0 ≡ 46) where
+    root-is : wireOf s ≡ 0 ∷ []
+    unfolding wireOf wireIn nameOf pick
+    root-is = rw (← same-end s (46 ∷ []) 1 (same-next s (46 ∷ []) 0 refl (omega arith) l q) (omega arith) l)
 
-  pub root : r ≡ true → length (wireOf s) ≤ length d → IsPut (wireOf s) d (set d 0 0) 1
-  root q h =
-      let l = root-room q h in
-      rw (root-is q) (put-by (0 ∷ []) d (set d 0 0) 1 (length-set d 0 0) (omega arith) (take-put d 0 0 l) (drop-set-lt 1 d 0 0 (omega arith)))
+    pub root-room : length (wireOf s) ≤ length d → 0 < length d
+    root-room h = let w = ap length root-is in omega arith
+
+    pub root : length (wireOf s) ≤ length d → IsPut (wireOf s) d (set d 0 0) 1
+    root h =
+        let k = root-room h in
+        rw root-is (put-by (0 ∷ []) d (set d 0 0) 1 (length-set d 0 0) (omega arith) (take-put d 0 0 k) (drop-set-lt 1 d 0 0 (omega arith)))
 
 label-length : (out : List ℕ) (start i : ℕ) → start ≤ i → i < length out → length (labelAt out start i) ≡ i - start
 label-length out start i h k = simp (length-drop, length-take) (omega arith)
@@ -225,4 +234,4 @@ module _ (s d out : List ℕ) (start i : ℕ) (e : Putting s d out start i) (n :
           ∙ rw g (on out d i (e .behind)) in
           put-by (wireOf s) d (set (set out start (length s - start)) (length s + 1) 0) (length s + 2) (simp length-set k) y f b
 
-pub ruleset wire·laws = (begin, room, root-room, root, dot, plain, plain-few, end-dot, last-room, end-label, needs)
+pub ruleset wire·laws = (other-byte, other-length, begin, room, root-room, root, dot, plain, plain-few, end-dot, last-room, end-label, needs)

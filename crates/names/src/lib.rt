@@ -1,2 +1,2 @@
-// Names: judged, and put on the wire.
+// Names put on the wire.
 pub mod names;

@@ -1,3 +1,2 @@
-// Numbers and digits.
-pub mod hex;
+// Decimal numbers.
 pub mod numbers;

@@ -8,9 +8,9 @@ use borrow.Author.Tests.{eq-eqb, ne-eqb}
 use lib.ListN.{length, getD}
 use Rattle.rules.specs.Lists.{pick}
 use Rattle.rules.specs.Fields.{lowerHexDigit}
-use Rattle.numbers.specs.Views.{hexOr}
-use Rattle.numbers.proofs.HexDigit.{Hex, begin, refused, all-good, all-worth, no-digit, more-digits}
-use Rattle.codes.proofs.Time.{turn, sixteen-times, sixteen-more}
+use Rattle.digits.specs.Digits.{hexOr}
+use Rattle.digits.proofs.HexDigit.{Hex, begin, refused, all-good, all-worth, no-digit, more-digits}
+use Rattle.times.proofs.Time.{turn, sixteen-times, sixteen-more}
 use Rattle.questions.specs.Questions.{momentOf}
 
 pub other-length : (s : List ℕ) → (length s ≡ 16 → ⊥) → none ≡ momentOf s

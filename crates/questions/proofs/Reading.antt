@@ -23,8 +23,9 @@ use Rattle.addresses.specs.Addresses.{addressRead, IsAddress}
 use Rattle.addresses.specs.declared.addresses.AddressRead.{AddressRead}
 use Rattle.numbers.specs.declared.numbers.NumberRead.{NumberRead}
 use Rattle.numbers.proofs.Number.{within}
-use Rattle.names.specs.Views.{judgedOf, isNamed}
-use Rattle.names.specs.declared.names.NameJudged.{NameJudged}
+use Rattle.judged_names.specs.Views.{judgedOf}
+use Rattle.names.specs.Views.{isNamed}
+use Rattle.judged_names.specs.declared.judged.NameJudged.{NameJudged}
 use Rattle.wire.proofs.Parts.{front-count}
 use Rattle.addresses.specs.HeldAddress.{heldAddress, IsHeld}
 use Rattle.names.specs.Held.{heldName, IsName}

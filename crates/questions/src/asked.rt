@@ -1,9 +1,9 @@
 // What is asked: a type and a name.
 ghost use Rattle.questions.specs.Questions.{askedOf};
 ghost use Rattle.questions.specs.Views.{IsAsked, IsNameRead};
+use judged_names::judged::NameJudged;
+use judged_names::judged::judge_name;
 use names::names::Name;
-use names::names::NameJudged;
-use names::names::judge_name;
 use names::names::read_name;
 use numbers::numbers::NumberRead;
 use numbers::numbers::number;

@@ -2,7 +2,7 @@
 ghost use mathlib.Core.Path.{_≡_};
 ghost use Rattle.questions.specs.Questions.{momentOf};
 ghost use Rattle.questions.specs.Views.{momentRead};
-use numbers::hex::hex_digit;
+use digits::hex::hex_digit;
 use rules::quantities::Moment;
 
 pub enum MomentRead {

@@ -14,9 +14,10 @@ use Rattle.rules.specs.declared.quantities.Moment.{Moment}
 use Rattle.rules.specs.declared.quantities.Ttl.{Ttl}
 use Rattle.rules.proofs.Fields.{number-most}
 use Rattle.numbers.specs.Views.{numberRead}
-use Rattle.codes.specs.Views.{timeRead, loRead}
+use Rattle.times.specs.Views.{timeRead}
+use Rattle.codes.specs.Views.{loRead}
 use Rattle.numbers.specs.declared.numbers.NumberRead.{NumberRead}
-use Rattle.codes.specs.declared.times.TimeRead.{TimeRead}
+use Rattle.times.specs.declared.times.TimeRead.{TimeRead}
 use Rattle.codes.specs.declared.codes.LoRead.{LoRead}
 use Rattle.rows.specs.Rows.{rowOf}
 use Rattle.rows.specs.declared.rows.Row.{Row}

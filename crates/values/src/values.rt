@@ -10,8 +10,6 @@ ghost use Rattle.rows.specs.Rows.{rowOf};
 ghost use Rattle.splits.specs.Splits.{FieldsOf};
 use codes::codes::LoRead;
 use codes::codes::lo;
-use codes::times::TimeRead;
-use codes::times::time;
 use numbers::numbers::NumberRead;
 use numbers::numbers::number;
 use rows::rows::Row;
@@ -23,6 +21,8 @@ use rules::quantities::Shared;
 use rules::quantities::Ttl;
 use splits::splits::Span;
 use splits::splits::field;
+use times::times::TimeRead;
+use times::times::time;
 
 // A number of at most the limit, or its default.
 fn number_or(text: &[u8], limit: u64, default: u64) -> u64

@@ -1,4 +1,5 @@
-use Rattle.addresses.proofs.Address.{address·laws}
+use borrow.Author.Needs.{needs}
+use Rattle.addresses.proofs.Address.{with-underscore, address·laws}
 use Rattle.addresses.proofs.addresses.address.Statement.{statement}
 use Rattle.addresses.proofs.addresses.address.Tie as tie
 
@@ -9,7 +10,7 @@ grouped-address-requires : tie.Need-grouped-address-requires
 grouped-address-requires c κs = search address·laws
 
 returns : tie.Need-returns
-returns c = search address·laws
+returns c = search (with-underscore, needs)
 
 dotted-address-requires : tie.Need-dotted-address-requires
 dotted-address-requires c κs = search address·laws

@@ -1,4 +1,5 @@
-use Rattle.addresses.proofs.Address.{dotted·laws}
+use borrow.Author.Needs.{needs}
+use Rattle.addresses.proofs.Address.{four, dotted·laws}
 use Rattle.addresses.proofs.addresses.dotted_address.Statement.{statement}
 use Rattle.addresses.proofs.addresses.dotted_address.Tie as tie
 
@@ -30,7 +31,7 @@ array-write-bytes-4 : tie.Need-array-write-bytes-4
 array-write-bytes-4 c = search dotted·laws
 
 returns : tie.Need-returns
-returns c = search dotted·laws
+returns c = search (four, needs)
 
 returns-2 : tie.Need-returns-2
 returns-2 c = search dotted·laws

@@ -1,4 +1,4 @@
-use Rattle.codes.proofs.Letter.{lo·laws}
+use Rattle.codes.proofs.Los.{lo·laws}
 use Rattle.codes.proofs.codes.lo.Statement.{statement}
 use Rattle.codes.proofs.codes.lo.Tie as tie
 

@@ -1,4 +1,4 @@
-use Rattle.codes.proofs.Letter.{code·laws}
+use Rattle.codes.proofs.Los.{code·laws}
 use Rattle.codes.proofs.codes.one_letter.Statement.{statement}
 use Rattle.codes.proofs.codes.one_letter.Tie as tie
 

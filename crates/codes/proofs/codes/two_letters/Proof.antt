@@ -1,4 +1,4 @@
-use Rattle.codes.proofs.Letter.{code·laws}
+use Rattle.codes.proofs.Los.{code·laws}
 use Rattle.codes.proofs.codes.two_letters.Statement.{statement}
 use Rattle.codes.proofs.codes.two_letters.Tie as tie
 

@@ -1,5 +1,5 @@
 use Rattle.rules.specs.Fields.{unless}
-use Rattle.codes.specs.Views.{timeRead}
+use Rattle.times.specs.Views.{timeRead}
 use Rattle.fields.proofs.FieldFault.{seen}
 use borrow.Author.Needs.{needs}
 use Rattle.fields.proofs.faults.time_fault.Statement.{statement}

@@ -1,6 +1,6 @@
 use Prim.Native.Nat.{_-_, _^_, _<_, _≤_}
 use lib.ListN.{length}
-use Rattle.numbers.proofs.HexDigit.{Hex}
+use Rattle.digits.proofs.HexDigit.{Hex}
 use Rattle.octets.proofs.Taken.{not-good}
 use Rattle.groups.proofs.Group.{anyCase, empty, long, bad-digit, good, four-times, four-more, group·laws}
 use Rattle.groups.proofs.groups.group.Statement.{statement}

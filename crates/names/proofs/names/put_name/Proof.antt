@@ -1,4 +1,5 @@
 use mathlib.Core.Path.{_≡_}
+use mathlib.Core.Logic.{⊎-elim}
 use Prim.Native.Nat.{_+_, _-_, _≤_}
 use lib.ListN.{length}
 use Rattle.names.proofs.Wire.{Putting, wire·laws}
@@ -11,8 +12,8 @@ Inv-loop out₀ text n start₀ i₀ out start i = (i ≤ length text) × (start
 abbrev μ-loop : tie.MeasureT-loop
 μ-loop out₀ text n start₀ i₀ out start i = length text - i
 
-is-root-requires : tie.Need-is-root-requires Inv-loop μ-loop
-is-root-requires c κs = search wire·laws
+shared-slice-read-if2 : tie.Need-shared-slice-read-if2 Inv-loop μ-loop
+shared-slice-read-if2 c = search wire·laws
 
 slice-write-out : tie.Need-slice-write-out Inv-loop μ-loop
 slice-write-out c = search wire·laws
@@ -24,7 +25,7 @@ returns : tie.Need-returns Inv-loop μ-loop
 returns c = search wire·laws
 
 loop-holds : tie.Need-loop-holds Inv-loop μ-loop
-loop-holds c = search wire·laws
+loop-holds c = ⊎-elim (λ w. search wire·laws) (λ w. search wire·laws) (c .if1 .came)
 
 shared-slice-read-b : tie.Need-shared-slice-read-b Inv-loop μ-loop
 shared-slice-read-b c = search wire·laws
@@ -107,7 +108,7 @@ put-name-spec =
     (tie.spec
     Inv-loop
     μ-loop
-    is-root-requires
+    shared-slice-read-if2
     slice-write-out
     same-length
     returns

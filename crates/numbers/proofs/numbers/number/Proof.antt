@@ -1,6 +1,6 @@
 use Prim.Native.Nat.{_-_, _^_, _<_, _≤_}
 use lib.ListN.{length}
-use Rattle.numbers.proofs.Number.{Digits, number·laws}
+use Rattle.numbers.proofs.Number.{Digits, long, good, number·laws}
 use Rattle.numbers.proofs.numbers.number.Statement.{statement}
 use Rattle.numbers.proofs.numbers.number.Tie as tie
 
@@ -14,7 +14,7 @@ returns : tie.Need-returns Inv-loop μ-loop
 returns c = search number·laws
 
 returns-2 : tie.Need-returns-2 Inv-loop μ-loop
-returns-2 c = search number·laws
+returns-2 c = long _ _ (c .if2 .taken)
 
 loop-holds : tie.Need-loop-holds Inv-loop μ-loop
 loop-holds c = search number·laws
@@ -47,7 +47,10 @@ loop-again : tie.Need-loop-again Inv-loop μ-loop
 loop-again c = search number·laws
 
 returns-5 : tie.Need-returns-5 Inv-loop μ-loop
-returns-5 c = search number·laws
+returns-5 c =
+    let t = c .before in
+    let l = t .before in
+    good _ _ _ _ (l .loop .inv .2) (l .before .before .if1 .left) (l .before .if2 .left) (t .loop-test .left) (c .if5 .taken)
 
 returns-6 : tie.Need-returns-6 Inv-loop μ-loop
 returns-6 c = search number·laws

@@ -1,7 +1,7 @@
 use Prim.Native.Nat.{_-_, _^_, _<_, _≤_}
 use lib.ListN.{length}
 use Rattle.rules.specs.Fields.{lowerHexDigit}
-use Rattle.numbers.proofs.HexDigit.{Hex}
+use Rattle.digits.proofs.HexDigit.{Hex}
 use Rattle.questions.proofs.MomentDigits.{moment·laws}
 use Rattle.questions.proofs.moments.read_moment.Statement.{statement}
 use Rattle.questions.proofs.moments.read_moment.Tie as tie

@@ -1,0 +1,2 @@
+pub mod NameCounts
+pub mod Views

@@ -1,0 +1,2 @@
+// Names judged.
+pub mod judged;

@@ -1,0 +1,2 @@
+// Prefixes.
+pub mod prefixes;

@@ -1,0 +1,2 @@
+// time.
+pub mod times;
