@@ -1,7 +1,7 @@
-use Rattle.vahmizar.proofs.Kept.{not-compiled, served, serve·laws}
+use Rattle.serving.proofs.Serving.{not-compiled, served, serve·laws}
 use borrow.Author.Needs.{needs}
-use Rattle.vahmizar.proofs.both.compile_and_ask.Statement.{statement}
-use Rattle.vahmizar.proofs.both.compile_and_ask.Tie as tie
+use Rattle.serving.proofs.compile_and_ask.Statement.{statement}
+use Rattle.serving.proofs.compile_and_ask.Tie as tie
 
 compile-requires : tie.Need-compile-requires
 compile-requires c κs = search needs
