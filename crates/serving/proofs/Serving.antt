@@ -1,22 +1,22 @@
 -- The laws of compiling and then asking.
 use mathlib.Core.Path.{_≡_, refl, sym, ap, _∙_}
-use mathlib.Core.Bool.{Bool, true, false, not, true≢false}
+use mathlib.Core.Bool.{true, false, true≢false}
 use mathlib.Core.List.{List}
 use Prim.Native.Nat.{ℕ, _≤_}
 use native.Mathlib.Omega.{arith}
 use borrow.Author.Needs.{needs}
-use borrow.Author.Tests.{not-true, not-false}
 use lib.ListN.{length, take}
 use Rattle.rules.specs.declared.faults.Answer.{Answer}
 use Rattle.rules.specs.declared.faults.Fault.{Fault}
 use Rattle.rules.specs.declared.faults.FieldKind.{FieldKind}
 use Rattle.rules.specs.declared.replies.Reply.{Reply}
 use Rattle.rules.specs.Lists.{pick}
-use Rattle.rules.specs.Answers.{isDone, answer}
+use Rattle.rules.specs.Answers.{faultNumber, isDone, answer}
 use Rattle.rules.specs.Questions.{Question}
 use Rattle.rules.specs.Reading.{askReply}
 use Rattle.rules.specs.Demands.{Accepted, needed, CompilingRefusesExactly, compiledBytes}
 use Rattle.rules.proofs.Refusals.{refuses-exactly}
+use Rattle.refusals.proofs.Numbers.{zero-done, other-refused}
 use Rattle.wire.proofs.Parts.{front-count}
 use Rattle.compiler.specs.Compiled.{IsCompiled}
 use Rattle.vahmizar.specs.declared.outcomes.Outcome.{Outcome}
@@ -41,20 +41,20 @@ done-is Fault.ReservedType e = absurd (true≢false (sym e))
 done-is (Fault.Empty kind) e = absurd (true≢false (sym e))
 done-is Fault.NoRoom e = absurd (true≢false (sym e))
 
-module _ (source : List ℕ) (serial : ℕ) (out out′ : List ℕ) (a : Answer) (done : Bool) (c : IsCompiled source serial out out′ a) (f : done ≡ isDone (a .fault)) where
+module _ (source : List ℕ) (serial : ℕ) (out out′ : List ℕ) (a : Answer) (n : ℕ) (c : IsCompiled source serial out out′ a) (f : n ≡ faultNumber (a .fault)) where
   -- compiling is done exactly where the source is accepted and there is room
   accepted-done : Accepted source → needed serial source ≤ length out → isDone (a .fault) ≡ true
   unfolding answer isDone
   accepted-done ok room = ap (λ (x : Answer). isDone (x .fault)) (c .answer ∙ is-done source serial out ok room)
 
-  done-accepted : done ≡ true → Accepted source × (needed serial source ≤ length out)
+  done-accepted : n ≡ 0 → Accepted source × (needed serial source ≤ length out)
   unfolding CompilingRefusesExactly
-  done-accepted d = refuses-exactly source serial (length out) .onlyDone (ap (λ (x : Answer). x .fault) (sym (c .answer)) ∙ done-is (a .fault) (sym f ∙ d))
+  done-accepted d = refuses-exactly source serial (length out) .onlyDone (ap (λ (x : Answer). x .fault) (sym (c .answer)) ∙ done-is (a .fault) (zero-done (a .fault) n f d))
 
-  pub not-compiled : (q : Question) (ordinal : ℕ) → not done ≡ true → Serves source serial out q ordinal out′ (Outcome.NotCompiled a)
+  pub not-compiled : (q : Question) (ordinal : ℕ) → (n ≡ 0 → ⊥) → Serves source serial out q ordinal out′ (Outcome.NotCompiled a)
   unfolding pick outcomeNumbers
   not-compiled q ordinal t =
-      let d : isDone (a .fault) ≡ false = sym f ∙ not-true done t in
+      let d : isDone (a .fault) ≡ false = other-refused (a .fault) n f t in
       record {
         outcome = rw (← c .answer, d);
         numbers = rw (← c .answer, d);
@@ -62,9 +62,9 @@ module _ (source : List ℕ) (serial : ℕ) (out out′ : List ℕ) (a : Answer)
         meaning = λ ok room askable. absurd (true≢false (sym (accepted-done ok room) ∙ d));
       }
 
-  module _ (t : not done ≡ false) where
+  module _ (t : n ≡ 0) where
     is-accepted : Accepted source × (needed serial source ≤ length out)
-    is-accepted = done-accepted (not-false done t)
+    is-accepted = done-accepted t
 
     count-is : a .bytes ≡ needed serial source
     unfolding answer
@@ -80,7 +80,7 @@ module _ (source : List ℕ) (serial : ℕ) (out out′ : List ℕ) (a : Answer)
         → Serves source serial out q ordinal out′ (Outcome.Asked reply)
     unfolding pick compiledBytes outcomeNumbers
     served q ordinal reply e =
-        let d : isDone (a .fault) ≡ true = sym f ∙ not-false done t in
+        let d : isDone (a .fault) ≡ true = zero-done (a .fault) n f t in
         record {
           outcome = rw (← c .answer, d, ← c .output, ← e);
           numbers = rw (← c .answer, d, ← c .output, ← e);

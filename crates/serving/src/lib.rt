@@ -2,7 +2,7 @@
 ghost use Rattle.vahmizar.specs.Promises.{Serves};
 use compiler::compile::compile;
 use reader::ask;
-use refusals::faults::is_done;
+use refusals::faults::number;
 use rules::quantities::Moment;
 use vahmizar::outcomes::Outcome;
 
@@ -20,7 +20,7 @@ pub fn compile_and_ask(
 {
     let said = compile(source, serial, out);
     let fault = said.fault;
-    if !is_done(fault) {
+    if number(fault) != 0 {
         return Outcome::NotCompiled(said);
     }
     let written = said.bytes;
