@@ -9,7 +9,6 @@ use hexadecimal::hex::print_hex;
 use libc::STDOUT_FILENO;
 use numbers::numbers::NumberRead;
 use numbers::numbers::number;
-use refusals::faults::is_done;
 use rules::faults::Answer;
 
 fn print_after_space(n: u64) {
@@ -29,7 +28,7 @@ fn compile_and_print(source: &[u8], out: &mut [u8]) {
     let answer = compile(source, 1000, out);
     print_answer(answer);
     let fault = answer.fault;
-    if !is_done(fault) {
+    if refusals::faults::number(fault) != 0 {
         return;
     }
     let len = answer.bytes;

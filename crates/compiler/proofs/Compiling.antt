@@ -1,18 +1,19 @@
 -- The laws of compiling.
 use mathlib.Core.Path.{_≡_, refl, ap, _∙_, sym}
-use mathlib.Core.Bool.{Bool, true, false, not}
+use mathlib.Core.Bool.{Bool, true, false}
 use mathlib.Core.List.{List, _++_}
 use Prim.Native.Nat.{ℕ, _<_, _≤_}
 use native.Mathlib.Omega.{arith}
-use borrow.Author.Tests.{lt-ltb, le-ltb, le-leb, lt-leb, not-true, not-false}
+use borrow.Author.Tests.{lt-ltb, le-ltb, le-leb, lt-leb}
 use lib.ListN.{length, drop}
 use Rattle.rules.specs.Lists.{pick, all}
 use Rattle.rules.specs.Kinds.{linesOf}
 use Rattle.rules.specs.Bytes.{sizeOfAll, bytesOf}
-use Rattle.rules.specs.Answers.{isDone, isGood, longestSource, sourceRecords, answer, judgeLines, judgeSource, ifRoom, compileAnswer, compileOutput}
+use Rattle.rules.specs.Answers.{faultNumber, isDone, isGood, longestSource, sourceRecords, answer, judgeLines, judgeSource, ifRoom, compileAnswer, compileOutput}
 use Rattle.rules.specs.declared.faults.Fault.{Fault}
 use Rattle.rules.specs.declared.faults.Answer.{Answer}
 use Rattle.rules.proofs.Meaning.{length-bytes}
+use Rattle.refusals.proofs.Numbers.{zero-done, other-refused}
 use Rattle.buffer.specs.Put.{IsPut}
 use Rattle.compiler.specs.Judged.{judgedFrom}
 use Rattle.compiler.specs.Compiled.{IsCompiled}
@@ -35,7 +36,7 @@ module _ (s : List ℕ) (serial : ℕ) (d : List ℕ) where
       unfold compileAnswer judgeSource longestSource pick isDone answer in rw (lt-ltb 1048576 (length s) h) in
       record { answer = e; output = kept s serial d _ e (unfold isDone in refl) }
 
-  module _ (short : length s ≤ 1048576) (judged : Answer) (done : Bool) (e : judged ≡ judgedFrom serial 1 0 (linesOf s)) (f : done ≡ isDone (judged .fault)) where
+  module _ (short : length s ≤ 1048576) (judged : Answer) (k : ℕ) (e : judged ≡ judgedFrom serial 1 0 (linesOf s)) (f : k ≡ faultNumber (judged .fault)) where
     answer-is : compileAnswer s serial (length d) ≡ pick (isDone (judgeLines 1 (linesOf s) .fault)) (ifRoom (sizeOfAll (sourceRecords serial s)) (length d)) (judgeLines 1 (linesOf s))
     unfolding compileAnswer judgeSource longestSource pick
     answer-is = rw (le-ltb 1048576 (length s) short)
@@ -44,25 +45,25 @@ module _ (s : List ℕ) (serial : ℕ) (d : List ℕ) where
     by-lines = e ∙ judged-is serial s
 
     -- judging is done exactly where the lines are
-    lines-done : isDone (judgeLines 1 (linesOf s) .fault) ≡ done
+    lines-done : isDone (judgeLines 1 (linesOf s) .fault) ≡ isDone (judged .fault)
     lines-done = by (judgeLines 1 (linesOf s)) (isDone (judgeLines 1 (linesOf s) .fault)) refl by-lines
       where
-        by : (j : Answer) (t : Bool) → isDone (j .fault) ≡ t → judged ≡ pick t (answer Fault.Done 0 0 (sizeOfAll (sourceRecords serial s))) j → t ≡ done
-        by j true q p = unfold pick in sym (f ∙ ap (λ (a : Answer). isDone (a .fault)) p ∙ (unfold answer isDone in refl))
-        by j false q p = unfold pick in sym (f ∙ ap (λ (a : Answer). isDone (a .fault)) p ∙ q)
+        by : (j : Answer) (t : Bool) → isDone (j .fault) ≡ t → judged ≡ pick t (answer Fault.Done 0 0 (sizeOfAll (sourceRecords serial s))) j → t ≡ isDone (judged .fault)
+        by j true q p = unfold pick in sym (ap (λ (a : Answer). isDone (a .fault)) p ∙ (unfold answer isDone in refl))
+        by j false q p = unfold pick in sym (ap (λ (a : Answer). isDone (a .fault)) p ∙ q)
 
-    refusal : done ≡ false → judged ≡ compileAnswer s serial (length d)
+    refusal : isDone (judged .fault) ≡ false → judged ≡ compileAnswer s serial (length d)
     unfolding pick
     refusal q = (rw (lines-done, q) at by-lines) ∙ sym (rw (lines-done, q) at answer-is)
 
-    pub refused : not done ≡ true → IsCompiled s serial d d judged
+    pub refused : (k ≡ 0 → ⊥) → IsCompiled s serial d d judged
     refused t =
-        let q : done ≡ false = not-true done t in
-        record { answer = refusal q; output = kept s serial d judged (refusal q) (sym f ∙ q) }
+        let q : isDone (judged .fault) ≡ false = other-refused (judged .fault) k f t in
+        record { answer = refusal q; output = kept s serial d judged (refusal q) q }
 
-    module _ (good : not done ≡ false) where
-      yes : done ≡ true
-      yes = not-false done good
+    module _ (good : k ≡ 0) where
+      yes : isDone (judged .fault) ≡ true
+      yes = zero-done (judged .fault) k f good
 
       needed : judged .bytes ≡ sizeOfAll (sourceRecords serial s)
       unfolding pick answer
@@ -73,7 +74,7 @@ module _ (s : List ℕ) (serial : ℕ) (d : List ℕ) where
       room-is = (rw (lines-done, yes) at answer-is) ∙ rw needed
 
       pub all-good : all isGood (linesOf s) ≡ true
-      all-good = done-good serial 1 0 (linesOf s) (rw (← e) (sym f ∙ yes))
+      all-good = done-good serial 1 0 (linesOf s) (rw (← e) yes)
 
       pub no-room : length d < judged .bytes → IsCompiled s serial d d (record { fault = Fault.NoRoom; line = 0; field = 0; bytes = judged .bytes })
       no-room h =

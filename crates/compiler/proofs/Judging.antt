@@ -1,22 +1,22 @@
 -- The laws of judging every line.
 use mathlib.Core.Path.{_≡_, refl, ap, _∙_, sym}
-use mathlib.Core.Bool.{Bool, true, false, not, _&&_}
+use mathlib.Core.Bool.{Bool, true, false, _&&_}
 use mathlib.Core.List.{List, [], _∷_, _++_, map}
 use Prim.Native.Nat.{ℕ, suc, _+_, _-_, _<_, _≤_}
 use native.Mathlib.Numerals.{add-one}
 use native.Mathlib.Omega.{arith}
 use borrow.Author.Needs.{needs}
-use borrow.Author.Tests.{not-true, not-false}
 use lib.ListN.{length, take, drop, drop-of-length-le}
 use Rattle.rules.specs.Lists.{pick, all, joinAll}
 use Rattle.rules.specs.Kinds.{linesOf}
 use Rattle.rules.specs.Records.{Record}
 use Rattle.rules.specs.Bytes.{sizeOfAll, bytesOf}
-use Rattle.rules.specs.Answers.{isDone, isGood, lineFault, lineRecords, sourceRecords, answer, judgeLines}
+use Rattle.rules.specs.Answers.{faultNumber, isDone, isGood, lineFault, lineRecords, sourceRecords, answer, judgeLines}
 use Rattle.rules.specs.declared.faults.Fault.{Fault}
 use Rattle.rules.specs.declared.faults.LineFault.{LineFault}
 use Rattle.rules.proofs.Meaning.{length-bytes}
 use Rattle.rules.proofs.Sizes.{line-short}
+use Rattle.refusals.proofs.Numbers.{zero-done, other-refused}
 use Rattle.buffer.specs.Put.{IsPut}
 use Rattle.wire.proofs.Parts.{lentAt, tail-lent}
 use Rattle.compiler.specs.FirstLine.{firstLine}
@@ -27,18 +27,18 @@ use Rattle.compiler.proofs.Lines.{line-is, lines-at, end-within}
 
 -- ---- one line
 
-module _ (line : List ℕ) (first : LineFault) (done : Bool) (e : first ≡ lineFault line) (d : done ≡ isDone (first .fault)) where
-  good-is : done ≡ isGood line
+module _ (line : List ℕ) (first : LineFault) (k : ℕ) (e : first ≡ lineFault line) (d : k ≡ faultNumber (first .fault)) where
+  good-is : isDone (first .fault) ≡ isGood line
   unfolding isGood
-  good-is = d ∙ rw e
+  good-is = rw e
 
-  pub line-good : done ≡ true → isGood line ≡ true
-  line-good t = sym good-is ∙ t
+  pub line-good : k ≡ 0 → isGood line ≡ true
+  line-good t = sym good-is ∙ zero-done (first .fault) k d t
 
-  pub line-room : (serial : ℕ) (scratch : List ℕ) → done ≡ true → length scratch ≡ 16384 → length (bytesOf (lineRecords serial line)) ≤ length scratch
+  pub line-room : (serial : ℕ) (scratch : List ℕ) → k ≡ 0 → length scratch ≡ 16384 → length (bytesOf (lineRecords serial line)) ≤ length scratch
   line-room serial scratch t l = omega (arith, line-short serial line (line-good t))
 
-  pub sized : (serial : ℕ) (before after : List ℕ) (r : ℕ) → done ≡ true → IsPut (bytesOf (lineRecords serial line)) before after r
+  pub sized : (serial : ℕ) (before after : List ℕ) (r : ℕ) → k ≡ 0 → IsPut (bytesOf (lineRecords serial line)) before after r
       → IsSized serial line (record { fault = first .fault; field = first .field; size = r })
   sized serial before after r t p = record {
     fault = rw e;
@@ -47,8 +47,8 @@ module _ (line : List ℕ) (first : LineFault) (done : Bool) (e : first ≡ line
     most = omega (arith, p .count, line-short serial line (line-good t));
   }
 
-  pub unsized : (serial : ℕ) → done ≡ false → IsSized serial line (record { fault = first .fault; field = first .field; size = 0 })
-  unsized serial t = record { fault = rw e; field = rw e; size = λ g. absurd (no (sym t ∙ good-is ∙ g)); most = omega arith }
+  pub unsized : (serial : ℕ) → (k ≡ 0 → ⊥) → IsSized serial line (record { fault = first .fault; field = first .field; size = 0 })
+  unsized serial t = record { fault = rw e; field = rw e; size = λ g. absurd (no (sym (other-refused (first .fault) k d t) ∙ good-is ∙ g)); most = omega arith }
     where
       no : false ≡ true → ⊥
       no q = let z : _≡_ {A = ℕ} 0 1 = cc in omega arith
@@ -77,29 +77,29 @@ module _ (serial : ℕ) (s : List ℕ) (number total at : ℕ) (g : Judging seri
     pub line-end : at + n ≤ length s
     line-end = end-within s at n h length-is
 
-    module _ (r : LineSize) (p : IsSized serial (take (at + n - at) (drop at s)) r) (done : Bool) (d : done ≡ isDone (r .fault)) where
+    module _ (r : LineSize) (p : IsSized serial (take (at + n - at) (drop at s)) r) (k : ℕ) (d : k ≡ faultNumber (r .fault)) where
       sized-first : IsSized serial (firstLine (drop at s)) r
       sized-first = rw (line-is s at n h length-is) at p
 
-      good-first : isGood (firstLine (drop at s)) ≡ done
+      good-first : isGood (firstLine (drop at s)) ≡ isDone (r .fault)
       unfolding isGood
-      good-first = sym (d ∙ rw (sized-first .fault))
+      good-first = rw (sized-first .fault)
 
       step : judgedFrom serial 1 0 (linesOf s)
-          ≡ pick done (judgedFrom serial (suc number) (total + sizeOfAll (lineRecords serial (firstLine (drop at s)))) (linesOf (drop (at + n + 1) s)))
+          ≡ pick (isDone (r .fault)) (judgedFrom serial (suc number) (total + sizeOfAll (lineRecords serial (firstLine (drop at s)))) (linesOf (drop (at + n + 1) s)))
           (answer (r .fault) number (r .field) 0)
       unfolding Judging judgedFrom
       step = sym g ∙ rw (lines-at s at n h length-is, good-first, sized-first .fault, sized-first .field)
 
-      pub bad-line : not done ≡ true → record { fault = r .fault; line = number; field = r .field; bytes = 0 } ≡ judgedFrom serial 1 0 (linesOf s)
+      pub bad-line : (k ≡ 0 → ⊥) → record { fault = r .fault; line = number; field = r .field; bytes = 0 } ≡ judgedFrom serial 1 0 (linesOf s)
       unfolding pick answer
-      bad-line t = sym (step ∙ rw (not-true done t))
+      bad-line t = sym (step ∙ rw (other-refused (r .fault) k d t))
 
-      pub next-line : not done ≡ false → Judging serial s (number + 1) (total + r .size) (at + n + 1)
+      pub next-line : k ≡ 0 → Judging serial s (number + 1) (total + r .size) (at + n + 1)
       unfolding Judging pick
       next-line t =
-          let q : isGood (firstLine (drop at s)) ≡ true = good-first ∙ not-false done t in
-          rw (add-one number, sized-first .size q) (sym (step ∙ rw (not-false done t)))
+          let q : isGood (firstLine (drop at s)) ≡ true = good-first ∙ zero-done (r .fault) k d t in
+          rw (add-one number, sized-first .size q) (sym (step ∙ rw (zero-done (r .fault) k d t)))
 
 pub ruleset judge·laws = (needs, begin-judging, all-judged, line-end, bad-line)
 

@@ -2,7 +2,7 @@
 ghost use Rattle.compiler.specs.Compiled.{IsCompiled};
 use crate::judge::judge;
 use crate::write::write_all;
-use refusals::faults::is_done;
+use refusals::faults::number;
 use rules::faults::Answer;
 use rules::faults::Fault;
 
@@ -20,7 +20,7 @@ pub fn compile(source: &[u8], serial: u32, out: &mut [u8]) -> Answer
     }
     let judged = judge(source, serial);
     let fault = judged.fault;
-    if !is_done(fault) {
+    if number(fault) != 0 {
         return judged;
     }
     let needed = judged.bytes;

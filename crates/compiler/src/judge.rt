@@ -7,7 +7,6 @@ ghost use Rattle.compiler.specs.Judged.{judgedFrom};
 ghost use Rattle.compiler.specs.Sized.{IsSized};
 use crate::ends::line_length;
 use lines::judge::line_fault;
-use refusals::faults::is_done;
 use rules::faults::Answer;
 use rules::faults::Fault;
 use writer::line::put_line;
@@ -27,7 +26,7 @@ fn size_line(scratch: &mut [u8], line: &[u8], serial: u32) -> LineSize
     let first = line_fault(line);
     let fault = first.fault;
     let field = first.field;
-    if is_done(fault) {
+    if refusals::faults::number(fault) == 0 {
         let size = put_line(scratch, line, serial);
         return LineSize { fault, field, size };
     }
@@ -52,7 +51,7 @@ pub(crate) fn judge(source: &[u8], serial: u32) -> Answer
         let end = at + line_length(&source[at..]);
         let line = size_line(&mut scratch, &source[at..end], serial);
         let fault = line.fault;
-        if !is_done(fault) {
+        if refusals::faults::number(fault) != 0 {
             return Answer {
                 fault,
                 line: number,

@@ -1,12 +1,9 @@
 // A reader that holds compiled bytes and its own place in them.
 ghost use mathlib.Core.Path.{_≡_};
-ghost use Rattle.rules.specs.Reading.{askReply};
 ghost use Rattle.places.specs.Places.{foundAt};
 ghost use Rattle.held.specs.Nth.{foundFrom};
 use places::Found;
 use places::record_at;
-use rules::quantities::Moment;
-use rules::replies::Reply;
 
 pub struct Reader<'a> {
     pub bytes: &'a [u8],
@@ -34,20 +31,6 @@ pub fn next<'s, 'a>(r: &'s mut Reader<'a>) -> Found
     let found = record_at(r.bytes, r.at);
     r.at = found.next;
     found
-}
-
-// The record of this ordinal, from 0, in the answer to a question to the bytes that are held, wherever the reader's place is.
-pub fn ask<'a, 'b, 'c>(
-    r: Reader<'a>,
-    name: &'b [u8],
-    qtype: u16,
-    client: &'c [u8],
-    moment: Moment,
-    ordinal: u64,
-) -> Reply
-    ensures { λ x. ⌜ x ≡ askReply (now (r .entry .bytes)) (record { name = now (name .entry); type = qtype; client = now (client .entry); moment = moment .0 }) ordinal ⌝ }
-{
-    reader::ask(r.bytes, name, qtype, client, moment, ordinal)
 }
 
 // What is at a place of bytes, by a reader that begins there: whoever calls it with plain bytes needs no reader.

@@ -14,7 +14,7 @@ use Rattle.rules.specs.Lists.{pick, splitOn}
 use Rattle.rules.specs.Kinds.{ignored, kindOf, meanings, fieldCount, fieldAt}
 use Rattle.rules.specs.Fields.{faultOf}
 use Rattle.rules.specs.Records.{joinedNames}
-use Rattle.rules.specs.Answers.{isDone, noFault, thenFault, fieldsFault, joinedFault, wholeLine, kindFault, strippedFault, longestLine, lineFault}
+use Rattle.rules.specs.Answers.{faultNumber, isDone, noFault, thenFault, fieldsFault, joinedFault, wholeLine, kindFault, strippedFault, longestLine, lineFault}
 use Rattle.rules.specs.declared.faults.Fault.{Fault}
 use Rattle.rules.specs.declared.faults.LineFault.{LineFault}
 use Rattle.rules.specs.declared.kinds.Kind.{Kind}
@@ -24,6 +24,7 @@ use Rattle.splits.specs.Splits.{FieldsOf, IsSplit}
 use Rattle.kinds.specs.Strips.{IsStripped}
 use Rattle.rows.specs.declared.rows.Row.{Row}
 use Rattle.splits.specs.declared.splits.Fields.{Fields}
+use Rattle.refusals.proofs.Numbers.{zero-done, other-refused}
 use Rattle.kinds.proofs.Stripping.{parted-line}
 use Rattle.rows.proofs.Table.{count-most}
 use Rattle.lines.specs.Meanings.{meaningOf}
@@ -51,21 +52,21 @@ module _ (s codes : List ℕ) (count i : ℕ) (g : Going s codes count i) (long 
   unfolding Going fieldsFault noFault
   all-good h k = rw (drop-of-length-le (map meaningOf (take count codes)) {i = i} (omega (arith, count-is))) at g
 
-  module _ (f : Fault) (done : Bool) (l : i < count) (p : f ≡ faultOf (meaningOf (getD codes i 0)) (fieldAt (splitOn 58 s) i)) (d : done ≡ isDone f) where
+  module _ (f : Fault) (n : ℕ) (l : i < count) (p : f ≡ faultOf (meaningOf (getD codes i 0)) (fieldAt (splitOn 58 s) i)) (d : n ≡ faultNumber f) where
     meaning-is : getD (map meaningOf (take count codes)) i (meaningOf 0) ≡ meaningOf (getD codes i 0)
     meaning-is = List·getD-map meaningOf (take count codes) i 0 ∙ ap meaningOf (getD-take count codes i 0 l)
 
-    step : fieldsFault 0 (map meaningOf (take count codes)) (splitOn 58 s) ≡ pick done (fieldsFault (suc i) (drop (suc i) (map meaningOf (take count codes))) (splitOn 58 s)) (record { fault = f; field = suc i })
+    step : fieldsFault 0 (map meaningOf (take count codes)) (splitOn 58 s) ≡ pick (isDone f) (fieldsFault (suc i) (drop (suc i) (map meaningOf (take count codes))) (splitOn 58 s)) (record { fault = f; field = suc i })
     unfolding Going fieldsFault thenFault
-    step = sym g ∙ rw (drop-cons (map meaningOf (take count codes)) i (meaningOf 0) (omega (arith, count-is)), meaning-is, ← p, ← d)
+    step = sym g ∙ rw (drop-cons (map meaningOf (take count codes)) i (meaningOf 0) (omega (arith, count-is)), meaning-is, ← p)
 
-    pub next-field : done ≡ true → Going s codes count (i + 1)
+    pub next-field : n ≡ 0 → Going s codes count (i + 1)
     unfolding Going pick
-    next-field t = rw (add-one i) (sym (step ∙ rw t))
+    next-field t = rw (add-one i) (sym (step ∙ rw (zero-done f n d t)))
 
-    pub first-fault : done ≡ false → record { fault = f; field = i + 1 } ≡ fieldsFault 0 (map meaningOf (take count codes)) (splitOn 58 s)
+    pub first-fault : (n ≡ 0 → ⊥) → record { fault = f; field = i + 1 } ≡ fieldsFault 0 (map meaningOf (take count codes)) (splitOn 58 s)
     unfolding pick
-    first-fault t = rw (add-one i) (sym (step ∙ rw t))
+    first-fault t = rw (add-one i) (sym (step ∙ rw (other-refused f n d t)))
 
 pub ruleset fields·laws = (needs, begin-fields, all-good, next-field, first-fault)
 
@@ -95,22 +96,22 @@ module _ (s : List ℕ) (kind : Kind) (fields : Fields) (p : IsSplit s kind fiel
     pub spans-of : not (fields .fits) ≡ false → FieldsOf s (fields .spans)
     spans-of t = p .each (not-false (fields .fits) t)
 
-    module _ (fits : not (fields .fits) ≡ false) (first : LineFault) (done : Bool) (f : first ≡ fieldsFault 0 (map meaningOf (take (fields .row .count) (fields .row .meanings))) (splitOn 58 s)) (d : done ≡ isDone (first .fault)) where
+    module _ (fits : not (fields .fits) ≡ false) (first : LineFault) (n : ℕ) (f : first ≡ fieldsFault 0 (map meaningOf (take (fields .row .count) (fields .row .meanings))) (splitOn 58 s)) (d : n ≡ faultNumber (first .fault)) where
       first-is : first ≡ fieldsFault 0 (meanings kind) (splitOn 58 s)
       unfolding rowOf
       first-is = f ∙ ap (λ (r : Row). fieldsFault 0 (map meaningOf (take (r .count) (r .meanings))) (splitOn 58 s)) (p .row) ∙ ap (λ (ms : List Meaning). fieldsFault 0 ms (splitOn 58 s)) (codes-mean kind)
 
-      enough : kindFault kind (splitOn 58 s) ≡ pick done (joinedFault (joinedNames kind (splitOn 58 s))) first
+      enough : kindFault kind (splitOn 58 s) ≡ pick (isDone (first .fault)) (joinedFault (joinedNames kind (splitOn 58 s))) first
       unfolding thenFault pick
-      enough = known ∙ rw (le-ltb (fieldCount kind) (length (splitOn 58 s)) (leb-true (length (splitOn 58 s)) (fieldCount kind) (sym (p .says) ∙ not-false (fields .fits) fits)), ← first-is, ← d)
+      enough = known ∙ rw (le-ltb (fieldCount kind) (length (splitOn 58 s)) (leb-true (length (splitOn 58 s)) (fieldCount kind) (sym (p .says) ∙ not-false (fields .fits) fits)), ← first-is)
 
-      pub field-first : done ≡ false → first ≡ kindFault kind (splitOn 58 s)
+      pub field-first : (n ≡ 0 → ⊥) → first ≡ kindFault kind (splitOn 58 s)
       unfolding pick
-      field-first t = sym (enough ∙ rw t)
+      field-first t = sym (enough ∙ rw (other-refused (first .fault) n d t))
 
-      pub joined-last : (r : LineFault) → done ≡ true → r ≡ joinedFault (joinedNames kind (splitOn 58 s)) → r ≡ kindFault kind (splitOn 58 s)
+      pub joined-last : (r : LineFault) → n ≡ 0 → r ≡ joinedFault (joinedNames kind (splitOn 58 s)) → r ≡ kindFault kind (splitOn 58 s)
       unfolding pick
-      joined-last r t q = q ∙ sym (enough ∙ rw t)
+      joined-last r t q = q ∙ sym (enough ∙ rw (zero-done (first .fault) n d t))
 
 module _ (line : List ℕ) where
   pub too-long : 1024 < length line → record { fault = Fault.LineTooLong; field = 0 } ≡ lineFault line

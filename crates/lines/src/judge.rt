@@ -15,7 +15,7 @@ use joined::joined::joined_fault;
 use kinds::kinds::is_ignored;
 use kinds::kinds::kind_of;
 use kinds::strips::stripped;
-use refusals::faults::is_done;
+use refusals::faults::number;
 use rules::faults::Fault;
 use rules::faults::LineFault;
 use rules::kinds::Kind;
@@ -42,7 +42,7 @@ fn fields_fault(rest: &[u8], spans: [Span; 11], codes: [u8; 11], count: usize) -
     let mut i: usize = 0;
     while i < count {
         let fault = fault_at(rest, spans, codes, i);
-        if is_done(fault) {
+        if number(fault) == 0 {
             i += 1;
         } else {
             return LineFault {
@@ -80,7 +80,7 @@ fn kind_fault(rest: &[u8], kind: Kind) -> LineFault
     let codes = row.meanings;
     let first = fields_fault(rest, spans, codes, count);
     let fault = first.fault;
-    if is_done(fault) {
+    if number(fault) == 0 {
         return joined_fault(rest, spans, kind);
     }
     first

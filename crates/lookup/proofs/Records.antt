@@ -1,19 +1,20 @@
 -- The laws of records at the front of a buffer.
 use mathlib.Core.Path.{_≡_, refl, ap, _∙_, sym}
-use mathlib.Core.Bool.{Bool, true, false, not}
+use mathlib.Core.Bool.{Bool, true, false}
 use mathlib.Core.List.{List}
 use Prim.Native.Nat.{ℕ, _≤_}
 use native.Mathlib.Omega.{arith}
 use borrow.Author.Needs.{needs}
-use borrow.Author.Tests.{leb-true, not-true, not-false}
+use borrow.Author.Tests.{leb-true}
 use lib.Dec.{leb}
 use lib.ListN.{length}
 use Rattle.rules.specs.Lists.{pick}
-use Rattle.rules.specs.Answers.{isDone, answer, judgeSource, ifRoom, compileAnswer, sourceRecords}
+use Rattle.rules.specs.Answers.{faultNumber, isDone, answer, judgeSource, ifRoom, compileAnswer, sourceRecords}
 use Rattle.rules.specs.Bytes.{sizeOfAll}
 use Rattle.rules.specs.declared.faults.Fault.{Fault}
 use Rattle.rules.specs.declared.faults.Answer.{Answer}
 use Rattle.compiler.specs.Compiled.{IsCompiled}
+use Rattle.refusals.proofs.Numbers.{zero-done, other-refused}
 use Rattle.wire.proofs.Parts.{front-count}
 use Rattle.lookup.specs.Answers.{IsRecords, frontOf}
 use Rattle.files.specs.Fronts.{IsFront}
@@ -40,11 +41,11 @@ fits s serial room a e d = by (judgeSource s) (isDone (judgeSource s .fault)) re
     by j true q p = within-room (sizeOfAll (sourceRecords serial s)) room a (unfold pick in p) d
     by j false q p = absurd (both (isDone (a .fault)) d (unfold pick in ap (λ (x : Answer). isDone (x .fault)) p ∙ q))
 
-module _ (s : List ℕ) (serial : ℕ) (out out′ : List ℕ) (a : Answer) (done : Bool) (e : IsCompiled s serial out out′ a) (f : done ≡ isDone (a .fault)) where
-  pub refused : not done ≡ true → IsRecords s serial out out′ (record { answer = a; front = record { whole = false; len = 0 } })
+module _ (s : List ℕ) (serial : ℕ) (out out′ : List ℕ) (a : Answer) (n : ℕ) (e : IsCompiled s serial out out′ a) (f : n ≡ faultNumber (a .fault)) where
+  pub refused : (n ≡ 0 → ⊥) → IsRecords s serial out out′ (record { answer = a; front = record { whole = false; len = 0 } })
   unfolding frontOf pick
   refused t =
-      let q : isDone (a .fault) ≡ false = sym f ∙ not-true done t in
+      let q : isDone (a .fault) ≡ false = other-refused (a .fault) n f t in
       record {
         answer = e .answer;
         front = rw q;
@@ -52,10 +53,10 @@ module _ (s : List ℕ) (serial : ℕ) (out out′ : List ℕ) (a : Answer) (don
         isFront = record { counts = (omega arith, refl); wholeOrNone = λ _. refl };
       }
 
-  pub compiled : not done ≡ false → length out′ ≡ length out → IsRecords s serial out out′ (record { answer = a; front = record { whole = true; len = a .bytes } })
+  pub compiled : n ≡ 0 → length out′ ≡ length out → IsRecords s serial out out′ (record { answer = a; front = record { whole = true; len = a .bytes } })
   unfolding frontOf pick
   compiled t l =
-      let q : isDone (a .fault) ≡ true = sym f ∙ not-false done t in
+      let q : isDone (a .fault) ≡ true = zero-done (a .fault) n f t in
       let b : a .bytes ≤ length out = fits s serial (length out) a (e .answer) q in
       record {
         answer = e .answer;

@@ -5,7 +5,7 @@ use crate::reports::refuse_source;
 use compiler::compile::compile;
 use files::files::Front;
 use files::files::read_file;
-use refusals::faults::is_done;
+use refusals::faults::number;
 use rules::faults::Answer;
 
 // What compiling answered, and the records that it left at the front of the buffer.
@@ -20,7 +20,7 @@ fn compile_into(source: &[u8], serial: u32, out: &mut [u8]) -> Compiled
 {
     let answer = compile(source, serial, out);
     let fault = answer.fault;
-    if !is_done(fault) {
+    if number(fault) != 0 {
         let front = Front {
             whole: false,
             len: 0,

@@ -1,6 +1,6 @@
 // The numbers of what compiling answers.
 ghost use mathlib.Core.Path.{_≡_};
-ghost use Rattle.rules.specs.Answers.{faultNumber, isDone};
+ghost use Rattle.rules.specs.Answers.{faultNumber};
 use rules::faults::Fault;
 use rules::faults::FieldKind;
 
@@ -26,11 +26,4 @@ pub fn number(fault: Fault) -> u64
         Fault::Empty(_) => 12,
         Fault::NoRoom => 13,
     }
-}
-
-// Whether there is no fault.
-pub fn is_done(fault: Fault) -> bool
-    ensures { λ r. ⌜ r ≡ isDone fault ⌝ }
-{
-    number(fault) == 0
 }

@@ -1,28 +1,21 @@
 -- The demands over the calls.
 use mathlib.Core.Path.{_≡_, refl, sym, ap, _∙_, subst}
-use mathlib.Core.Bool.{Bool, true, false, not, true≢false}
 use mathlib.Core.List.{List}
 use Prim.Native.Nat.{ℕ, _≤_}
-use native.Mathlib.Omega.{arith}
-use borrow.Author.Needs.{needs}
-use borrow.Author.Tests.{eq-eqb, not-true, not-false}
+use borrow.Author.Tests.{eq-eqb}
 use lib.ListN.{length, take, getElem?}
 use lib.Dec.{T, eqb}
 use Rattle.rules.specs.declared.faults.Answer.{Answer}
 use Rattle.rules.specs.declared.faults.Fault.{Fault}
-use Rattle.rules.specs.declared.faults.FieldKind.{FieldKind}
 use Rattle.rules.specs.declared.replies.Reply.{Reply}
 use Rattle.rules.specs.Lists.{pick}
-use Rattle.rules.specs.Answers.{faultNumber, numbersOf, isDone, answer, compileAnswer, compileOutput}
+use Rattle.rules.specs.Answers.{faultNumber, answer, compileAnswer, compileOutput}
 use Rattle.rules.specs.Questions.{Question}
 use Rattle.rules.specs.Reading.{replyNumber, askReply}
 use Rattle.rules.specs.Demands.{Accepted, needed, CompilingRefusesExactly, compiledBytes, CompilingKeepsTheMeaning}
 use Rattle.rules.proofs.Refusals.{refuses-exactly}
 use Rattle.rules.proofs.Meaning.{keeps-the-meaning}
-use Rattle.wire.proofs.Parts.{front-count}
-use Rattle.compiler.specs.Compiled.{IsCompiled}
-use Rattle.vahmizar.specs.declared.both.Outcome.{Outcome}
-use Rattle.vahmizar.specs.Promises.{laid, Compiles, Asks, Answered, TheCallRefusesExactly, Askable, Tells, Told, TheCallsKeepTheMeaning, outcomeNumbers, Serves}
+use Rattle.vahmizar.specs.Promises.{Compiles, Asks, Answered, TheCallRefusesExactly, Askable, Tells, Told, TheCallsKeepTheMeaning}
 
 -- past the check of the answer's length
 past {ℓ} : {A : Type ℓ} (n : ℕ) (s : List ℕ) (x y z : A) → length s ≡ n → x ≡ pick (eqb (length s) n) y z → x ≡ y
@@ -39,7 +32,7 @@ the-call-refuses-exactly source serial out s out′ s′ r c h = record {
 }
 
 module _ (source : List ℕ) (serial : ℕ) (out : List ℕ) (accepted : Accepted source) (room : needed serial source ≤ length out) where
-  is-done : compileAnswer source serial (length out) ≡ answer Fault.Done 0 0 (needed serial source)
+  pub is-done : compileAnswer source serial (length out) ≡ answer Fault.Done 0 0 (needed serial source)
   unfolding CompilingRefusesExactly
   is-done = refuses-exactly source serial (length out) .done accepted room
 
@@ -53,7 +46,7 @@ module _ (source : List ℕ) (serial : ℕ) (out : List ℕ) (accepted : Accepte
   tells q ordinal a = keeps-the-meaning source serial out q ordinal accepted room (a .name) (a .moment) (a .client)
 
   -- the same of a buffer that holds what compiling leaves
-  tells-in : (out′ : List ℕ) → out′ ≡ compileOutput source serial out → (q : Question) (ordinal : ℕ) → Askable q
+  pub tells-in : (out′ : List ℕ) → out′ ≡ compileOutput source serial out → (q : Question) (ordinal : ℕ) → Askable q
       → Tells source serial (take (needed serial source) out′) q ordinal (askReply (take (needed serial source) out′) q ordinal)
   tells-in out′ e q ordinal a =
       let same : compiledBytes source serial out ≡ take (needed serial source) out′ = sym bytes-are ∙ ap (take (needed serial source)) (sym e) in
@@ -70,72 +63,3 @@ the-calls-keep-the-meaning source serial out s out′ s′ r q ordinal t t′ m 
     tells = tells-in source serial out accepted room out′ (past 32 s _ _ _ h (c .output)) q ordinal askable;
   },
 )
-
--- ---- compile_and_ask
-
--- only the number 0 is done
-done-is : (f : Fault) → isDone f ≡ true → f ≡ Fault.Done
-unfolding isDone
-done-is Fault.Done e = refl
-done-is Fault.SourceTooLong e = absurd (true≢false (sym e))
-done-is Fault.LineTooLong e = absurd (true≢false (sym e))
-done-is Fault.UnknownKind e = absurd (true≢false (sym e))
-done-is Fault.TooManyFields e = absurd (true≢false (sym e))
-done-is (Fault.Malformed FieldKind.Name) e = absurd (true≢false (sym e))
-done-is (Fault.Malformed FieldKind.Address) e = absurd (true≢false (sym e))
-done-is (Fault.Malformed FieldKind.Number) e = absurd (true≢false (sym e))
-done-is (Fault.Malformed FieldKind.Time) e = absurd (true≢false (sym e))
-done-is (Fault.Malformed FieldKind.Lo) e = absurd (true≢false (sym e))
-done-is (Fault.Malformed FieldKind.Escape) e = absurd (true≢false (sym e))
-done-is Fault.ReservedType e = absurd (true≢false (sym e))
-done-is (Fault.Empty kind) e = absurd (true≢false (sym e))
-done-is Fault.NoRoom e = absurd (true≢false (sym e))
-
-module _ (source : List ℕ) (serial : ℕ) (out out′ : List ℕ) (a : Answer) (done : Bool) (c : IsCompiled source serial out out′ a) (f : done ≡ isDone (a .fault)) where
-  -- compiling is done exactly where the source is accepted and there is room
-  accepted-done : Accepted source → needed serial source ≤ length out → isDone (a .fault) ≡ true
-  unfolding answer isDone
-  accepted-done ok room = ap (λ (x : Answer). isDone (x .fault)) (c .answer ∙ is-done source serial out ok room)
-
-  done-accepted : done ≡ true → Accepted source × (needed serial source ≤ length out)
-  unfolding CompilingRefusesExactly
-  done-accepted d = refuses-exactly source serial (length out) .onlyDone (ap (λ (x : Answer). x .fault) (sym (c .answer)) ∙ done-is (a .fault) (sym f ∙ d))
-
-  pub not-compiled : (q : Question) (ordinal : ℕ) → not done ≡ true → Serves source serial out q ordinal out′ (Outcome.NotCompiled a)
-  unfolding pick outcomeNumbers
-  not-compiled q ordinal t =
-      let d : isDone (a .fault) ≡ false = sym f ∙ not-true done t in
-      record {
-        outcome = rw (← c .answer, d);
-        numbers = rw (← c .answer, d);
-        output = c .output;
-        meaning = λ ok room askable. absurd (true≢false (sym (accepted-done ok room) ∙ d));
-      }
-
-  module _ (t : not done ≡ false) where
-    is-accepted : Accepted source × (needed serial source ≤ length out)
-    is-accepted = done-accepted (not-false done t)
-
-    count-is : a .bytes ≡ needed serial source
-    unfolding answer
-    count-is = ap (λ (x : Answer). x .bytes) (c .answer ∙ is-done source serial out (is-accepted .0) (is-accepted .1))
-
-    pub written-fits : length out′ ≡ length out → a .bytes ≤ length out′
-    written-fits e = omega (arith, count-is, is-accepted .1)
-
-    pub written-count : length out′ ≡ length out → a .bytes ≡ length (take (a .bytes) out′)
-    written-count e = front-count out′ (a .bytes) (length out′) refl (written-fits e)
-
-    pub served : (q : Question) (ordinal : ℕ) (reply : Reply) → reply ≡ askReply (take (a .bytes) out′) q ordinal
-        → Serves source serial out q ordinal out′ (Outcome.Asked reply)
-    unfolding pick compiledBytes outcomeNumbers
-    served q ordinal reply e =
-        let d : isDone (a .fault) ≡ true = sym f ∙ not-false done t in
-        record {
-          outcome = rw (← c .answer, d, ← c .output, ← e);
-          numbers = rw (← c .answer, d, ← c .output, ← e);
-          output = c .output;
-          meaning = λ ok room askable. (reply, (refl, rw (e, count-is) (tells-in source serial out ok room out′ (c .output) q ordinal askable)));
-        }
-
-pub ruleset serve·laws = (needs, written-fits, written-count)

@@ -13,7 +13,7 @@ use Rattle.rules.specs.Answers.{faultNumber, numbersOf, isDone, sourceRecords, 
 use Rattle.rules.specs.Questions.{Question, placedFrom, answers}
 use Rattle.rules.specs.Reading.{momentEnd, replyNumber, replyNumbers, askReply}
 use Rattle.rules.specs.Demands.{Accepted, needed, RefusesExactly, compiledBytes, Gives}
-use Rattle.vahmizar.specs.declared.both.Outcome.{Outcome}
+use Rattle.vahmizar.specs.declared.outcomes.Outcome.{Outcome}
 
 -- an answer's numbers in its lent slice: "8 bytes each, little-endian, in the order named above"
 unfoldable pub laid : List ℕ → List ℕ

@@ -1,8 +1,8 @@
-// The calls that a name server makes, and both together. specs/Promises.antt says what each promises.
+// The calls that a name server makes. specs/Promises.antt says what each promises, and what both together do.
 ghost use Rattle.vahmizar.specs.Promises.{Compiles, Asks};
 
-pub mod both;
 mod numbers;
+pub mod outcomes;
 
 use compiler::compile::compile;
 use numbers::put_four;

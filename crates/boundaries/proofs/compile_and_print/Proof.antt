@@ -1,3 +1,4 @@
+use mathlib.Core.Path.{refl}
 use Rattle.wire.proofs.Parts.{front-count}
 use borrow.Author.Needs.{needs}
 use Rattle.boundaries.proofs.compile_and_print.Statement.{statement}
@@ -9,8 +10,8 @@ compile-requires c κs = search (front-count, needs)
 print-answer-requires : tie.Need-print-answer-requires
 print-answer-requires c κs = search (front-count, needs)
 
-is-done-requires : tie.Need-is-done-requires
-is-done-requires c κs = search (front-count, needs)
+number-requires : tie.Need-number-requires
+number-requires c κs = search (front-count, needs)
 
 same-length : tie.Need-same-length
 same-length c = search (front-count, needs)
@@ -40,7 +41,7 @@ slice-reshare-prefix-print-hex : tie.Need-slice-reshare-prefix-print-hex
 slice-reshare-prefix-print-hex c = search (front-count, needs)
 
 slice-aggregate-print-hex : tie.Need-slice-aggregate-print-hex
-slice-aggregate-print-hex c = search (front-count, needs)
+slice-aggregate-print-hex c = front-count _ _ _ refl (search needs)
 
 print-hex-requires : tie.Need-print-hex-requires
 print-hex-requires c κs = search (front-count, needs)
@@ -57,7 +58,7 @@ compile-and-print-spec =
     (tie.spec
     compile-requires
     print-answer-requires
-    is-done-requires
+    number-requires
     same-length
     returns
     same-length-2

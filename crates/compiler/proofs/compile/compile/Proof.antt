@@ -10,20 +10,20 @@ returns c = source-long _ _ _ (c .if1 .taken)
 judge-requires : tie.Need-judge-requires
 judge-requires c κs = search needs
 
-is-done-requires : tie.Need-is-done-requires
-is-done-requires c κs = search needs
+number-requires : tie.Need-number-requires
+number-requires c κs = search needs
 
 returns-2 : tie.Need-returns-2
 returns-2 c =
     let asked = c .before in
     let judged = asked .before in
-    refused _ _ _ (judged .before .if1 .left) _ _ (judged .judge .ensures) (asked .is-done .ensures) (c .if2 .taken)
+    refused _ _ _ (judged .before .if1 .left) _ _ (judged .judge .ensures) (asked .number .ensures) (c .if2 .taken)
 
 returns-3 : tie.Need-returns-3
 returns-3 c =
     let asked = c .before .before in
     let judged = asked .before in
-    no-room _ _ _ (judged .before .if1 .left) _ _ (judged .judge .ensures) (asked .is-done .ensures) (c .before .if2 .left) (c .if3 .taken)
+    no-room _ _ _ (judged .before .if1 .left) _ _ (judged .judge .ensures) (asked .number .ensures) (c .before .if2 .left) (c .if3 .taken)
 
 write-all-requires : tie.Need-write-all-requires
 write-all-requires c κs =
@@ -32,8 +32,8 @@ write-all-requires c κs =
     let judged = asked .before in
     let short = judged .before .if1 .left in
     let out = now (judged .before .before .before .before .args .out) in (
-      (short, all-good _ _ out short _ _ (judged .judge .ensures) (asked .is-done .ensures) (good .if2 .left)),
-      bytes-fit _ _ out short _ _ (judged .judge .ensures) (asked .is-done .ensures) (good .if2 .left) (c .before .if3 .left),
+      (short, all-good _ _ out short _ _ (judged .judge .ensures) (asked .number .ensures) (good .if2 .left)),
+      bytes-fit _ _ out short _ _ (judged .judge .ensures) (asked .number .ensures) (good .if2 .left) (c .before .if3 .left),
     )
 
 same-length : tie.Need-same-length
@@ -45,7 +45,7 @@ returns-4 c =
     let room = put .before .before in
     let asked = room .before .before in
     let judged = asked .before in
-    compiled _ _ _ (judged .before .if1 .left) _ _ (judged .judge .ensures) (asked .is-done .ensures) (room .before .if2 .left) (room .if3 .left) _ _ (put .write-all .ensures)
+    compiled _ _ _ (judged .before .if1 .left) _ _ (judged .judge .ensures) (asked .number .ensures) (room .before .if2 .left) (room .if3 .left) _ _ (put .write-all .ensures)
 
 pub compile-spec : {M : Type 1} → statement M
 compile-spec =
@@ -53,7 +53,7 @@ compile-spec =
     (tie.spec
     returns
     judge-requires
-    is-done-requires
+    number-requires
     returns-2
     returns-3
     write-all-requires

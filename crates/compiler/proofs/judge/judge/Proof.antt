@@ -50,8 +50,8 @@ part-size-line-end c = search judge·laws
 size-line-requires : tie.Need-size-line-requires Inv-loop μ-loop
 size-line-requires c κs = search judge·laws
 
-is-done-requires : tie.Need-is-done-requires Inv-loop μ-loop
-is-done-requires c κs = search judge·laws
+number-requires : tie.Need-number-requires Inv-loop μ-loop
+number-requires c κs = search judge·laws
 
 returns : tie.Need-returns Inv-loop μ-loop
 returns c = search judge·laws
@@ -91,7 +91,7 @@ judge-spec =
     part-size-line-start
     part-size-line-end
     size-line-requires
-    is-done-requires
+    number-requires
     returns
     add-number
     add-total

@@ -6,8 +6,8 @@ use Rattle.compiler.proofs.judge.size_line.Tie as tie
 line-fault-requires : tie.Need-line-fault-requires
 line-fault-requires c κs = search needs
 
-is-done-requires : tie.Need-is-done-requires
-is-done-requires c κs = search needs
+number-requires : tie.Need-number-requires
+number-requires c κs = search needs
 
 put-line-requires : tie.Need-put-line-requires
 put-line-requires c κs = search size·laws
@@ -24,4 +24,4 @@ returns-2 c = search size·laws
 pub size-line-spec : {M : Type 1} → statement M
 size-line-spec =
     tie.close
-    (tie.spec line-fault-requires is-done-requires put-line-requires same-length returns returns-2)
+    (tie.spec line-fault-requires number-requires put-line-requires same-length returns returns-2)

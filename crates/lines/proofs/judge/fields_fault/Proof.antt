@@ -15,8 +15,8 @@ loop-holds c = search fields·laws
 fault-at-requires : tie.Need-fault-at-requires Inv-loop μ-loop
 fault-at-requires c κs = search fields·laws
 
-is-done-requires : tie.Need-is-done-requires Inv-loop μ-loop
-is-done-requires c κs = search fields·laws
+number-requires : tie.Need-number-requires Inv-loop μ-loop
+number-requires c κs = search fields·laws
 
 add-i : tie.Need-add-i Inv-loop μ-loop
 add-i c = search fields·laws
@@ -44,7 +44,7 @@ fields-fault-spec =
     μ-loop
     loop-holds
     fault-at-requires
-    is-done-requires
+    number-requires
     add-i
     loop-less
     loop-again

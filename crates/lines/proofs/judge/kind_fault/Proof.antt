@@ -19,8 +19,8 @@ fields-fault-requires c κs =
     let split = known .before .before .split .ensures in
     (spans-of _ _ _ split (known .if1 .left) (fits .if2 .left), row-most _ _ _ split)
 
-is-done-requires : tie.Need-is-done-requires
-is-done-requires c κs = search needs
+number-requires : tie.Need-number-requires
+number-requires c κs = search needs
 
 joined-fault-requires : tie.Need-joined-fault-requires
 joined-fault-requires c κs =
@@ -35,7 +35,7 @@ returns-3 c =
     let first = done .before in
     let fits = first .before .before .before in
     let known = fits .before .before in
-    joined-last _ _ _ (known .before .before .split .ensures) (known .if1 .left) (fits .if2 .left) _ _ (first .fields-fault .ensures) (done .is-done .ensures) _ (c .before .if3 .taken) (c .joined-fault .ensures)
+    joined-last _ _ _ (known .before .before .split .ensures) (known .if1 .left) (fits .if2 .left) _ _ (first .fields-fault .ensures) (done .number .ensures) _ (c .before .if3 .taken) (c .joined-fault .ensures)
 
 returns-4 : tie.Need-returns-4
 returns-4 c =
@@ -43,7 +43,7 @@ returns-4 c =
     let first = done .before in
     let fits = first .before .before .before in
     let known = fits .before .before in
-    field-first _ _ _ (known .before .before .split .ensures) (known .if1 .left) (fits .if2 .left) _ _ (first .fields-fault .ensures) (done .is-done .ensures) (c .if3 .left)
+    field-first _ _ _ (known .before .before .split .ensures) (known .if1 .left) (fits .if2 .left) _ _ (first .fields-fault .ensures) (done .number .ensures) (c .if3 .left)
 
 pub kind-fault-spec : {M : Type 1} → statement M
 kind-fault-spec =
@@ -53,7 +53,7 @@ kind-fault-spec =
     returns
     returns-2
     fields-fault-requires
-    is-done-requires
+    number-requires
     joined-fault-requires
     returns-3
     returns-4)

@@ -6,8 +6,8 @@ use Rattle.lookup.proofs.compiled.compile_into.Tie as tie
 compile-requires : tie.Need-compile-requires
 compile-requires c κs = search records·laws
 
-is-done-requires : tie.Need-is-done-requires
-is-done-requires c κs = search records·laws
+number-requires : tie.Need-number-requires
+number-requires c κs = search records·laws
 
 same-length : tie.Need-same-length
 same-length c = search records·laws
@@ -24,4 +24,4 @@ returns-2 c = search records·laws
 pub compile-into-spec : {M : Type 1} → statement M
 compile-into-spec =
     tie.close
-    (tie.spec compile-requires is-done-requires same-length returns same-length-2 returns-2)
+    (tie.spec compile-requires number-requires same-length returns same-length-2 returns-2)

@@ -1,13 +1,13 @@
-use Rattle.vahmizar.proofs.Kept.{not-compiled, served, serve·laws}
+use Rattle.serving.proofs.Serving.{not-compiled, served, serve·laws}
 use borrow.Author.Needs.{needs}
-use Rattle.vahmizar.proofs.both.compile_and_ask.Statement.{statement}
-use Rattle.vahmizar.proofs.both.compile_and_ask.Tie as tie
+use Rattle.serving.proofs.compile_and_ask.Statement.{statement}
+use Rattle.serving.proofs.compile_and_ask.Tie as tie
 
 compile-requires : tie.Need-compile-requires
 compile-requires c κs = search needs
 
-is-done-requires : tie.Need-is-done-requires
-is-done-requires c κs = search needs
+number-requires : tie.Need-number-requires
+number-requires c κs = search needs
 
 same-length : tie.Need-same-length
 same-length c = search needs
@@ -35,7 +35,7 @@ compile-and-ask-spec =
     tie.close
     (tie.spec
     compile-requires
-    is-done-requires
+    number-requires
     same-length
     returns
     slice-reshare-prefix-ask

@@ -1,16 +1,10 @@
 // Both calls together: a source compiled into a lent buffer, and one question put to exactly what was written there.
 ghost use Rattle.vahmizar.specs.Promises.{Serves};
 use compiler::compile::compile;
 use reader::ask;
-use refusals::faults::is_done;
-use rules::faults::Answer;
+use refusals::faults::number;
 use rules::quantities::Moment;
-use rules::replies::Reply;
-
-pub enum Outcome {
-    NotCompiled(Answer),
-    Asked(Reply),
-}
+use vahmizar::outcomes::Outcome;
 
 pub fn compile_and_ask(
     source: &[u8],
@@ -26,7 +20,7 @@ pub fn compile_and_ask(
 {
     let said = compile(source, serial, out);
     let fault = said.fault;
-    if !is_done(fault) {
+    if number(fault) != 0 {
         return Outcome::NotCompiled(said);
     }
     let written = said.bytes;

@@ -1,4 +1,4 @@
--- `held::ask` meets its contract: a walk of its MIR, by hand, after `peek`, with two slices at lifetimes of their own, two numbers and a moment beside the struct. `reader::ask` is called on the slice that the struct holds. All that the proof knows of it is that it meets its contract.
+-- `asking::ask` meets its contract: a walk of its MIR, by hand, after `held::peek`, with two slices at lifetimes of their own, two numbers and a moment beside the struct. `reader::ask` is called on the slice that the struct holds. All that the proof knows of it is that it meets its contract.
 -- Assumes nothing.
 use mathlib.Core.Path.{_≡_, refl}
 use Prim.Native.Nat.{ℕ, _<_, _^_}
@@ -54,13 +54,13 @@ use Rattle.reader.proofs.ask as inner
 use Rattle.reader.proofs.ask.Symbol as inner-def
 use Rattle.reader.proofs.ask.Symbol.{name as #reader·ask}
 use Rattle.reader.proofs.ask.Met as inner-thm
 use Rattle.held.specs.declared.Reader.{Reader}
 use Rattle.held.proofs.Reader as T
 use Rattle.held.proofs.Reader.Laws as T′
-use Rattle.held.proofs.ask.Key.{name as #held·ask}
-use Rattle.held.proofs.ask as ask
-use Rattle.held.proofs.ask.Statement as stated
-use Rattle.held.proofs.ask.Code as code
+use Rattle.asking.proofs.ask.Key.{name as #asking·ask}
+use Rattle.asking.proofs.ask as ask
+use Rattle.asking.proofs.ask.Statement as stated
+use Rattle.asking.proofs.ask.Code as code
 
 -- the struct's type, over the signature's lifetimes
 abbrev B : Lfts 3 → RattleType
@@ -216,6 +216,6 @@ pub ask-spec : {M : Type 1} → stated.statement M
 unfolding code.routine tablesOf
 ask-spec 𝓤 H 𝓜 𝓖 𝓡 =
     entered 𝓤 H (tripleOf 𝓤 H (𝓖 .A) ask.signature (ask.spec 𝓤 H (𝓖 .A) (𝓜 .mem) (𝓡 .run)))
-    (tables 𝓤 H 𝓜 𝓡 code.env .C) (tables 𝓤 H 𝓜 𝓡 code.env .Λ) #held·ask code.function (code.unfolded 𝓤 H 𝓜 𝓡)
+    (tables 𝓤 H 𝓜 𝓡 code.env .C) (tables 𝓤 H 𝓜 𝓡 code.env .Λ) #asking·ask code.function (code.unfolded 𝓤 H 𝓜 𝓡)
     (ask-meets 𝓤 H (𝓖 .A) (givenOf 𝓤 H 𝓜 𝓖) (𝓜 .mem) (𝓡 .run) (tablesOf 𝓤 H 𝓜 (tables 𝓤 H 𝓜 𝓡 code.env))
     (cited 𝓤 H (Inner 𝓤 H (𝓖 .A) (𝓜 .mem) (𝓡 .run)) 𝓜 𝓡 code.env #reader·ask inner-def.routine code.calls-reader·ask (inner-thm.met 𝓤 H 𝓜 𝓖 𝓡)))
