@@ -48,7 +48,7 @@ fn is_upper(b: u8) -> bool
     b <= 90
 }
 
-// Whether a part of 16 bytes is free of A to Z. Each byte is looked at: a loop without a way out takes all of them at a time.
+// Whether a part of a key is free of A to Z. Each byte is looked at: a loop without a way out takes many bytes at a time.
 fn is_lowered_part(part: &[u8]) -> bool
     ensures { λ r. ⌜ r ≡ lowered (now (part .entry)) ⌝ }
 {
@@ -66,29 +66,13 @@ fn is_lowered_part(part: &[u8]) -> bool
     low
 }
 
-// Whether a short key is free of A to Z, byte by byte. Were it taken by parts of a length that isn't known, the length of every key would be
-// put together from its low and its high bytes.
-fn is_lowered_short(key: &[u8]) -> bool
-    ensures { λ r. ⌜ r ≡ lowered (now (key .entry)) ⌝ }
-{
-    let n = key.len();
-    let mut i: usize = 0;
-    while i < n {
-        if is_upper(key[i]) {
-            return false;
-        }
-        i += 1;
-    }
-    true
-}
-
 // Whether bytes are free of A to Z. They are taken by 16, for which no loop is left, and the last 16 may have been looked at before.
 fn is_lowered(key: &[u8]) -> bool
     ensures { λ r. ⌜ r ≡ lowered (now (key .entry)) ⌝ }
 {
     let n = key.len();
     if n < 16 {
-        return is_lowered_short(key);
+        return is_lowered_part(key);
     }
     let mut i: usize = 0;
     while 16 < n - i {

@@ -1,18 +1,19 @@
 -- A key that can answer for a name is what the name ends in.
 use mathlib.Core.Path.{_≡_, refl, _∙_, sym}
-use mathlib.Core.Bool.{Bool, true, false, not, _||_}
+use mathlib.Core.Bool.{Bool, true, false, not, _&&_, _||_}
 use mathlib.Core.List.{List, [], _∷_, map}
-use Prim.Native.Nat.{ℕ, zero, suc, _-_, _<_}
+use Prim.Native.Nat.{ℕ, zero, suc, _+_, _-_, _<_, _≤_}
 use native.Mathlib.Omega.{arith}
 use borrow.Author.Needs.{needs}
-use borrow.Author.Tests.{not-true, not-false}
-use lib.ListN.{length, take, drop, length-map, length-drop}
-use lib.Dec.{T}
-use Rattle.rules.specs.Lists.{lower, sameBytes}
+use borrow.Author.Tests.{leb-true, not-true, not-false}
+use lib.ListN.{length, getD, take, drop, length-map, length-drop, drop-of-length-le}
+use lib.Dec.{T, leb}
+use Rattle.rules.specs.Lists.{pick, lower, sameBytes}
 use Rattle.rules.specs.Questions.{ancestorsFrom, ancestors}
 use Rattle.rules.proofs.Lists.{same-length}
 use Rattle.wire.proofs.Parts.{tail-lent}
-use Rattle.wire.proofs.Compare.{other-length-lowered}
+use Rattle.wire.proofs.Compare.{other-length-lowered, differs-lowered}
+use Rattle.wire.proofs.Steps.{left-at}
 use Rattle.ranks.specs.Ranks.{among, endsIn}
 use Rattle.ranks.proofs.Ranking.{drop-map}
 
@@ -56,12 +57,43 @@ not-end n key e = go (sameBytes key n) (among key (ancestors n)) refl refl
 
 -- ---- the code's tests
 
+-- what is lowered to a byte below the letters is that byte
+low-byte : (b k : ℕ) → k < 65 → k ≡ lower b → b ≡ k
+unfolding lower pick
+low-byte b k h e = go (leb 65 b) (leb b 90) refl e
+  where
+    go : (s t : Bool) → leb 65 b ≡ s → k ≡ pick (s && t) (b + 32) b → b ≡ k
+    go true true q e = absurd (omega (arith, leb-true 65 b q))
+    go true false q e = sym e
+    go false t q e = sym e
+
 module _ (name key : List ℕ) where
   pub longer : length name < length key → false ≡ endsIn (map lower name) key
   unfolding endsIn
   longer h =
       let l : length (map lower name) - length key ≡ 0 = omega (arith, length-map name lower) in
       rw l (other-length-lowered key name (λ e. omega arith))
+
+  pub no-key : length key ≡ 0 → true ≡ endsIn (map lower name) key
+  unfolding endsIn sameBytes
+  no-key h = empty key h
+    where
+      empty : (key : List ℕ) → length key ≡ 0 → true ≡ sameBytes key (drop (length (map lower name) - length key) (map lower name))
+      empty [] h =
+          let l : length (map lower name) ≤ length (map lower name) - 0 = omega arith in
+          rw (drop-of-length-le (map lower name) l)
+      empty (k ∷ key) h = absurd (omega arith)
+
+  pub first-other : length key ≤ length name → (length key ≡ 0 → ⊥) → getD key 0 0 < 65 → (getD name (length name - length key) 0 ≡ getD key 0 0 → ⊥) → false ≡ endsIn (map lower name) key
+  unfolding endsIn
+  first-other h z f d =
+      let front = length name - length key in
+      let l : length key ≡ length (drop front name) = omega (arith, length-drop front name) in
+      let i : front < length name = omega arith in
+      let g : getD (drop front name) 0 0 ≡ getD name front 0 = rw (left-at name front i) in
+      let q : false ≡ sameBytes key (map lower (drop front name)) =
+      differs-lowered key (drop front name) 0 refl l _ (omega arith) refl (λ e. d (sym g ∙ low-byte _ _ f e)) in
+      q ∙ rw (← (drop-map lower front name), length-map name lower)
 
   pub tail : (t : Bool) → t ≡ sameBytes key (map lower (take (length name - (length name - length key)) (drop (length name - length key) name))) → t ≡ endsIn (map lower name) key
   unfolding endsIn
@@ -81,6 +113,6 @@ module _ (name key : List ℕ) where
   pub shorter-end : (u : Bool) → (length name ≡ length key → ⊥) → u ≡ among key (ancestors (map lower name)) → u ≡ (sameBytes key (map lower name) || among key (ancestors (map lower name)))
   shorter-end u z e = rw (← (other-length-lowered key name (λ e. z (sym e))), ← e)
 
-pub ruleset end·laws = (needs, longer, tail)
+pub ruleset end·laws = (needs, longer, no-key, first-other, tail)
 
 pub ruleset related·laws = (needs, other-end, same-end, shorter-end)

@@ -74,7 +74,8 @@ fn is_ancestor(name: &[u8], key: &[u8]) -> bool
     false
 }
 
-// Whether a name ends in a key, as it does in those that can answer for it. Most keys are told by a byte.
+// Whether a name ends in a key, as it does in those that can answer for it. Most keys are told by their first byte, the length of a label:
+// below the letters it needs no lowering.
 pub fn is_end(name: &[u8], key: &[u8]) -> bool
     ensures { λ r. ⌜ r ≡ endsIn (map lower (now (name .entry))) (now (key .entry)) ⌝ }
 {
@@ -82,7 +83,16 @@ pub fn is_end(name: &[u8], key: &[u8]) -> bool
     if n < key.len() {
         return false;
     }
+    if key.len() == 0 {
+        return true;
+    }
     let front = n - key.len();
+    let first = key[0];
+    if first < 65 {
+        if name[front] != first {
+            return false;
+        }
+    }
     same_lowered(key, &name[front..])
 }
 

@@ -13,8 +13,8 @@ Inv-loop key n i₀ i = (i ≤ length key) × (16 ≤ length key) × (lowered (t
 abbrev μ-loop : tie.MeasureT-loop
 μ-loop key n i₀ i = length key - i
 
-is-lowered-short-requires : tie.Need-is-lowered-short-requires Inv-loop μ-loop
-is-lowered-short-requires c κs = search lowered·laws
+is-lowered-part-requires : tie.Need-is-lowered-part-requires Inv-loop μ-loop
+is-lowered-part-requires c κs = search lowered·laws
 
 returns : tie.Need-returns Inv-loop μ-loop
 returns c = search lowered·laws
@@ -37,8 +37,8 @@ part-is-lowered-part-start c = search lowered·laws
 part-is-lowered-part-end : tie.Need-part-is-lowered-part-end Inv-loop μ-loop
 part-is-lowered-part-end c = search lowered·laws
 
-is-lowered-part-requires : tie.Need-is-lowered-part-requires Inv-loop μ-loop
-is-lowered-part-requires c κs = search lowered·laws
+is-lowered-part-requires-2 : tie.Need-is-lowered-part-requires-2 Inv-loop μ-loop
+is-lowered-part-requires-2 c κs = search lowered·laws
 
 returns-2 : tie.Need-returns-2 Inv-loop μ-loop
 returns-2 c = search lowered·laws
@@ -58,8 +58,8 @@ part-is-lowered-part-start-2 c = search lowered·laws
 part-is-lowered-part-end-2 : tie.Need-part-is-lowered-part-end-2 Inv-loop μ-loop
 part-is-lowered-part-end-2 c = search lowered·laws
 
-is-lowered-part-requires-2 : tie.Need-is-lowered-part-requires-2 Inv-loop μ-loop
-is-lowered-part-requires-2 c κs = search lowered·laws
+is-lowered-part-requires-3 : tie.Need-is-lowered-part-requires-3 Inv-loop μ-loop
+is-lowered-part-requires-3 c κs = search lowered·laws
 
 returns-3 : tie.Need-returns-3 Inv-loop μ-loop
 returns-3 c = search lowered·laws
@@ -70,7 +70,7 @@ is-lowered-spec =
     (tie.spec
     Inv-loop
     μ-loop
-    is-lowered-short-requires
+    is-lowered-part-requires
     returns
     loop-holds
     sub-loop
@@ -78,12 +78,12 @@ is-lowered-spec =
     sub-is-lowered-part
     part-is-lowered-part-start
     part-is-lowered-part-end
-    is-lowered-part-requires
+    is-lowered-part-requires-2
     returns-2
     loop-less
     loop-again
     sub-is-lowered-part-2
     part-is-lowered-part-start-2
     part-is-lowered-part-end-2
-    is-lowered-part-requires-2
+    is-lowered-part-requires-3
     returns-3)
