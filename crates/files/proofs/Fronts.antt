@@ -1,6 +1,5 @@
 -- The laws of bytes at the front of a buffer.
-use mathlib.Core.Path.{_≡_}
-use mathlib.Core.Bool.{true, false, true≢false}
+use mathlib.Core.Bool.{true, true≢false}
 use mathlib.Core.List.{List}
 use Prim.Native.Nat.{ℕ}
 use borrow.Author.Needs.{needs}

@@ -2,45 +2,20 @@
 use mathlib.Core.Path.{_≡_, _∙_, sym}
 use mathlib.Core.Bool.{Bool, true, false}
 use mathlib.Core.List.{List, [], _∷_, _++_, map, append-assoc}
-use Prim.Native.Nat.{ℕ, _+_, _-_, _<_, _≤_}
+use Prim.Native.Nat.{ℕ, _+_, _-_, _≤_}
 use native.Mathlib.Omega.{arith}
 use borrow.Author.Needs.{needs}
-use borrow.Author.Tests.{ne-eqb}
-use lib.ListN.{length, getD, take, drop, length-drop}
+use lib.ListN.{length, take, drop, length-drop}
 use Rattle.rules.specs.declared.quantities.Lo.{Lo}
 use Rattle.rules.specs.declared.quantities.Shared.{Shared}
-use Rattle.rules.specs.Lists.{pick, lower, be, le, beginsWith}
+use Rattle.rules.specs.Lists.{pick, lower, be, le}
 use Rattle.rules.specs.Records.{loBytes}
 use Rattle.rules.specs.Bytes.{wild, unstarred, flagAndLo}
 use Rattle.buffer.specs.Put.{IsPut}
 use Rattle.wire.proofs.Parts.{tail-lent}
 use Rattle.buffer.proofs.Puts.{nothing}
-use Rattle.wire.proofs.Compare.{too-short, longer}
+use Rattle.wire.proofs.Compare.{longer}
 use Rattle.heads.specs.Head.{ownerKey, keySize, flagOf, fixedFields, fixedSize, headOf}
-
--- the star label
-pub wild-short : (owner : List ℕ) → length owner < 2 → false ≡ wild owner
-unfolding wild
-wild-short owner h = too-short (1 ∷ 42 ∷ []) owner h
-
-pub wild-first : (owner : List ℕ) → 2 ≤ length owner → (getD owner 0 0 ≡ 1 → ⊥) → false ≡ wild owner
-unfolding wild beginsWith
-wild-first [] h n = absurd (omega arith)
-wild-first (a ∷ owner) h n = rw (ne-eqb 1 a (λ e. n (sym e)))
-
-pub wild-second : (owner : List ℕ) → 2 ≤ length owner → getD owner 0 0 ≡ 1 → (getD owner 1 0 ≡ 42 → ⊥) → false ≡ wild owner
-unfolding wild beginsWith
-wild-second [] h e n = absurd (omega arith)
-wild-second (a ∷ []) h e n = absurd (omega arith)
-wild-second (a ∷ b ∷ owner) h e n = rw (e, ne-eqb 42 b (λ q. n (sym q)))
-
-pub wild-both : (owner : List ℕ) → 2 ≤ length owner → getD owner 0 0 ≡ 1 → getD owner 1 0 ≡ 42 → true ≡ wild owner
-unfolding wild beginsWith
-wild-both [] h e q = absurd (omega arith)
-wild-both (a ∷ []) h e q = absurd (omega arith)
-wild-both (a ∷ b ∷ owner) h e q = rw (e, q)
-
-pub ruleset wild·laws = (needs, wild-short, wild-first, wild-second, wild-both)
 
 -- the key of an owner with the star label, by the flag that says so
 module _ (owner : List ℕ) (r : Bool) (w : r ≡ wild owner) where

@@ -8,7 +8,7 @@ use lib.ListN.{length, drop, length-append, length-map, length-drop}
 use Rattle.rules.specs.declared.quantities.Lo.{Lo}
 use Rattle.rules.specs.declared.quantities.Shared.{Shared}
 use Rattle.rules.specs.Lists.{pick, lower, le}
-use Rattle.rules.specs.Records.{Record, location, resource, loBytes, resourceOf}
+use Rattle.rules.specs.Records.{Record, location, loBytes, resourceOf}
 use Rattle.rules.specs.Bytes.{wild, unstarred, keyOf, flagAndLo, rdataOf, fixedOf, dataOf, encode, size}
 use Rattle.wire.proofs.Numbers.{length-le, length-be}
 use Rattle.heads.specs.Head.{ownerKey, keySize, fixedFields, fixedSize, headOf, headSize}

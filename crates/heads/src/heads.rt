@@ -5,7 +5,7 @@ ghost use Prim.Native.Nat.{_+_, _≤_};
 ghost use lib.ListN.{length};
 ghost use Rattle.rules.specs.Lists.{be, le};
 ghost use Rattle.rules.specs.Records.{loBytes};
-ghost use Rattle.rules.specs.Bytes.{wild, flagAndLo};
+ghost use Rattle.rules.specs.Bytes.{flagAndLo};
 ghost use Rattle.buffer.specs.Put.{IsPut};
 ghost use Rattle.heads.specs.Head.{ownerKey, keySize, flagOf, fixedFields, fixedSize, headOf, headSize};
 use buffer::put::put_bytes;
@@ -16,22 +16,7 @@ use integers::integers::put_u32;
 use integers::integers::put_u64;
 use rules::quantities::Lo;
 use rules::quantities::Shared;
-
-// Whether the owner's first label is just `*`.
-fn is_wild(owner: &[u8]) -> bool
-    ensures { λ r. ⌜ r ≡ wild (now (owner .entry)) ⌝ }
-{
-    if owner.len() < 2 {
-        return false;
-    }
-    if owner[0] != 1 {
-        return false;
-    }
-    if owner[1] != b'*' {
-        return false;
-    }
-    true
-}
+use wire::stars::is_wild;
 
 // How many bytes of key an owner makes.
 fn key_size(owner: &[u8]) -> usize

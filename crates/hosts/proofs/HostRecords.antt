@@ -1,6 +1,6 @@
 -- The records of a line with a field x, by what was read of it.
 use mathlib.Core.Path.{_≡_}
-use mathlib.Core.List.{List, [], _∷_, _++_}
+use mathlib.Core.List.{List}
 use Prim.Native.Nat.{ℕ}
 use Rattle.rules.specs.Lists.{splitOn}
 use Rattle.rules.specs.Kinds.{fieldAt}

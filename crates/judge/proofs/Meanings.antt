@@ -14,13 +14,29 @@ use Rattle.rules.specs.declared.quantities.Lo.{Lo}
 use Rattle.rules.specs.Lists.{pick, fromBE}
 use Rattle.rules.specs.Fields.{largestTtl}
 use Rattle.rules.specs.Records.{Record, resource, loBytes}
+use Rattle.rules.specs.Bytes.{wild}
 use Rattle.rules.specs.Reading.{ordinaryKey, wildcardKey, isLo, momentEnd, behindLo, withLo, byFlag}
 use Rattle.rules.proofs.Tests.{pick-ok, tests}
-use Rattle.keys.specs.Keys.{goodKey}
+use Rattle.keys.specs.Keys.{goodKey, lowName, fitsOwner}
+use Rattle.keys.proofs.GoodKeys.{good-is}
 use Rattle.judge.specs.declared.Seen.{Seen}
 use Rattle.judge.specs.declared.Flag.{Flag}
 use Rattle.judge.specs.declared.Fields.{Fields}
+use Rattle.judge.proofs.SeenRecords.{equals}
 use Rattle.judge.specs.Seen.{ownerOf, seenRecord, sharedIn, seenWith, wildcardFlag, loIn, loFlag, flagBy, flagIn, fixedIn}
+
+-- ---- a key that fits the owner
+
+module _ (key : List ℕ) (w : Bool) where
+  pub fits-wildcard : w ≡ true → leb (length key) 253 ≡ fitsOwner w key
+  unfolding fitsOwner pick
+  fits-wildcard y = rw y
+
+  pub fits-other : (v : Bool) → w ≡ false → v ≡ wild key → not v ≡ fitsOwner w key
+  unfolding fitsOwner pick
+  fits-other v y k = rw (y, k)
+
+pub ruleset owner·laws = (needs, fits-wildcard, fits-other)
 
 -- ---- by the flag
 
@@ -47,6 +63,9 @@ two-of (a ∷ b ∷ rest) h = refl
 unfoldable pub onFlag : List ℕ → List ℕ → Bool → ℕ → Flag → Option Record
 onFlag key rdata w type Flag.Broken = none
 onFlag key rdata w type (Flag.Whole lo at) = behindLo (ownerOf w key) type (loBytes lo) (drop at rdata)
+
+pub name-low : (key : List ℕ) (u : Bool) → u ≡ lowName key → not u ≡ false → lowName key ≡ true
+name-low key u p m = sym p ∙ not-false u m
 
 module _ (key rdata : List ℕ) (type : ℕ) where
   lo-means : (w : Bool) → onFlag key rdata w type (loFlag rdata) ≡ withLo (ownerOf w key) type (drop 3 rdata)
@@ -89,10 +108,15 @@ module _ (key rdata : List ℕ) (type : ℕ) where
       equal true q = rw (eqb-true flag 61 q) (unfold byFlag wildcardFlag flagBy goodKey pick onFlag ownerOf loBytes in refl)
       equal false q = greater (eqb flag 62) refl q
 
-  module _ (w : Bool) (ew : w ≡ wildcardFlag (getD rdata 2 0)) (t : Bool) (q : t ≡ goodKey w key) where
+  -- a key that is no name free of A to Z
+  pub name-bad : (u : Bool) → u ≡ lowName key → not u ≡ true → seenRecord key rdata Seen.Broken ≡ byFlag key type (getD rdata 2 0) (drop 3 rdata)
+  unfolding seenRecord pick
+  name-bad u p m = sym (flag-means (getD rdata 2 0) ∙ rw (good-is key (wildcardFlag (getD rdata 2 0)), ← p, not-true u m))
+
+  module _ (low : lowName key ≡ true) (w : Bool) (ew : w ≡ wildcardFlag (getD rdata 2 0)) (t : Bool) (q : t ≡ fitsOwner w key) where
     flagged : byFlag key type (getD rdata 2 0) (drop 3 rdata) ≡ pick t (onFlag key rdata w type (flagIn rdata)) none
     unfolding flagIn
-    flagged = flag-means (getD rdata 2 0) ∙ rw (← ew, ← q)
+    flagged = flag-means (getD rdata 2 0) ∙ rw (← ew, good-is key w, low, ← q)
 
     pub key-bad : not t ≡ true → seenRecord key rdata Seen.Broken ≡ byFlag key type (getD rdata 2 0) (drop 3 rdata)
     unfolding seenRecord pick
@@ -111,6 +135,18 @@ module _ (key rdata : List ℕ) (type : ℕ) where
           → seenRecord key rdata r ≡ byFlag key type (getD rdata 2 0) (drop 3 rdata)
       unfolding onFlag
       flag-read lo at r b e = ap (seenRecord key rdata) e ∙ behind key rdata w type lo at ∙ sym (read-on ∙ ap (onFlag key rdata w type) b)
+
+  -- the flag `=`
+  module _ (u : Bool) (p : u ≡ lowName key) (m : not u ≡ false) (e : getD rdata 2 0 ≡ 61) (v : Bool) (k : v ≡ wild key) where
+    ordinary : false ≡ wildcardFlag (getD rdata 2 0)
+    unfolding wildcardFlag
+    ordinary = rw e
+
+    pub starred : v ≡ true → seenRecord key rdata Seen.Broken ≡ byFlag key type (getD rdata 2 0) (drop 3 rdata)
+    starred y = key-bad (name-low key u p m) false ordinary (not v) (fits-other key false v refl k) (rw y)
+
+    pub plain-read : (r : Seen) → v ≡ false → r ≡ seenWith false type (3 + 12) (sharedIn Lo.Every (drop 3 rdata)) → seenRecord key rdata r ≡ byFlag key type (getD rdata 2 0) (drop 3 rdata)
+    plain-read r y f = flag-read (name-low key u p m) false ordinary (not v) (fits-other key false v refl k) (rw y) (Flag.Whole Lo.Every 3) (equals rdata e) Lo.Every 3 r refl f
 
 pub two-there : (rest : List ℕ) → T (isLo (take 2 rest)) → 2 ≤ length rest
 unfolding isLo
@@ -152,4 +188,6 @@ pub no-fixed : (rdata : List ℕ) → fixedIn Seen.Broken ≤ length rdata
 unfolding fixedIn
 no-fixed rdata = omega arith
 
-pub ruleset by-flag·laws = (needs, ttl-inside, key-bad, flag-bad, flag-read, whole-fixed, no-fixed)
+pub ruleset any-flag·laws = (needs, ttl-inside, key-bad, flag-bad, flag-read, whole-fixed, no-fixed)
+
+pub ruleset by-flag·laws = (needs, name-bad, name-low, starred, plain-read, whole-fixed, no-fixed)

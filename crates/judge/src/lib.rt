@@ -1,16 +1,17 @@
 // What the key and the data of one record say. Each function that judges has one caller or is small, so that a stream is judged without calls.
 ghost use mathlib.Core.Path.{_≡_};
-ghost use mathlib.Core.Bool.{_&&_};
+ghost use mathlib.Core.Bool.{true, _&&_};
 ghost use mathlib.Core.List.{[], _∷_};
 ghost use Prim.Native.Nat.{_≤_, _+_};
 ghost use lib.ListN.{length, drop, getD};
 ghost use lib.Dec.{leb, eqb};
 ghost use Rattle.rules.specs.Reading.{isLo, byFlag, resourceIn, locationIn, recordIn};
+ghost use Rattle.keys.specs.Keys.{lowName, fitsOwner};
 ghost use Rattle.judge.specs.Seen.{wildcardFlag, loFlag, flagIn, sharedIn, seenWith, seenRecord, fixedIn};
 
 pub mod known;
 
-use keys::is_good_key;
+use keys::is_low_name;
 use letters::ascii::is_letter;
 use rules::quantities::Lo;
 use rules::quantities::Moment;
@@ -18,6 +19,7 @@ use rules::quantities::Shared;
 use rules::quantities::Ttl;
 use wire::get::get_be;
 use wire::get::wide;
+use wire::stars::is_wild;
 
 // A record that was read. Of a resource record the record data begin at `fixed` in its data; a wildcard's key lacks the label `*`.
 pub enum Seen {
@@ -140,20 +142,49 @@ fn fields_in(rdata: &[u8], lo: Lo, at: usize, wild: bool, rtype: u16) -> Seen
     }
 }
 
-// A record of this type: whether it is a wildcard goes by the flag, and what its key may be by that.
-fn by_flag(key: &[u8], rdata: &[u8], rtype: u16) -> Seen
+// Whether a name free of A to Z is the key that a wildcard record, or another, can have.
+fn fits_owner(key: &[u8], wild: bool) -> bool
+    ensures { λ r. ⌜ r ≡ fitsOwner wild (now (key .entry)) ⌝ }
+{
+    if wild {
+        return key.len() <= 253;
+    }
+    !is_wild(key)
+}
+
+// A record of this type whose key is a name free of A to Z: whether it is a wildcard goes by the flag, and what its key may be by that.
+fn by_any_flag(key: &[u8], rdata: &[u8], rtype: u16) -> Seen
     requires { ⌜ 3 ≤ length (now rdata) ⌝ }
+    requires { ⌜ lowName (now key) ≡ true ⌝ }
     ensures { λ r. ⌜ seenRecord (now (key .entry)) (now (rdata .entry)) r ≡ byFlag (now (key .entry)) rtype (getD (now (rdata .entry)) 2 0) (drop 3 (now (rdata .entry))) ⌝ }
     ensures { λ r. ⌜ fixedIn r ≤ length (now (rdata .entry)) ⌝ }
 {
     let wild = is_wildcard(rdata[2]);
-    if !is_good_key(key, wild) {
+    if !fits_owner(key, wild) {
         return Seen::Broken;
     }
     match flag_in(rdata, wild) {
         Flag::Whole(lo, at) => fields_in(rdata, lo, at, wild, rtype),
         Flag::Broken => Seen::Broken,
     }
+}
+
+// A record of this type. Most have the flag `=`, so it is looked for first.
+fn by_flag(key: &[u8], rdata: &[u8], rtype: u16) -> Seen
+    requires { ⌜ 3 ≤ length (now rdata) ⌝ }
+    ensures { λ r. ⌜ seenRecord (now (key .entry)) (now (rdata .entry)) r ≡ byFlag (now (key .entry)) rtype (getD (now (rdata .entry)) 2 0) (drop 3 (now (rdata .entry))) ⌝ }
+    ensures { λ r. ⌜ fixedIn r ≤ length (now (rdata .entry)) ⌝ }
+{
+    if !is_low_name(key) {
+        return Seen::Broken;
+    }
+    if rdata[2] != 61 {
+        return by_any_flag(key, rdata, rtype);
+    }
+    if is_wild(key) {
+        return Seen::Broken;
+    }
+    fields_in(rdata, Lo::Every, 3, false, rtype)
 }
 
 // A record with an owner: its data begin with the type and the flag.

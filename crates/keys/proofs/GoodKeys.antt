@@ -1,39 +1,28 @@
--- A good key, test by test.
-use mathlib.Core.Path.{_≡_}
-use mathlib.Core.Bool.{Bool, true, false, not, and-false}
+-- A good key: a name free of A to Z that fits the owner.
+use mathlib.Core.Path.{_≡_, refl}
+use mathlib.Core.Bool.{Bool, true, false, not, _&&_, and-true, and-false}
 use mathlib.Core.List.{List}
-use Prim.Native.Nat.{ℕ, _<_, _≤_}
+use Prim.Native.Nat.{ℕ}
 use borrow.Author.Needs.{needs}
-use borrow.Author.Tests.{le-leb, lt-leb, not-true, not-false}
-use lib.ListN.{length}
+use borrow.Author.Tests.{not-true, not-false}
 use Rattle.rules.specs.Lists.{pick}
 use Rattle.rules.specs.Names.{isWire}
-use Rattle.rules.specs.Bytes.{wild}
 use Rattle.rules.specs.Reading.{lowered, ordinaryKey, wildcardKey}
-use Rattle.keys.specs.Keys.{goodKey}
+use Rattle.keys.specs.Keys.{goodKey, lowName, fitsOwner}
 
-module _ (key : List ℕ) (u : Bool) (p : u ≡ lowered key) where
-  pub not-lowered : (w : Bool) → not u ≡ true → false ≡ goodKey w key
-  unfolding goodKey ordinaryKey wildcardKey pick
-  not-lowered true m = rw (← p, not-true u m, and-false (isWire key))
-  not-lowered false m = rw (← p, not-true u m, and-false (isWire key))
+module _ (key : List ℕ) where
+  module _ (u : Bool) (p : u ≡ lowered key) where
+    pub not-lowered : not u ≡ true → false ≡ lowName key
+    unfolding lowName
+    not-lowered m = rw (← p, not-true u m, and-false (isWire key))
 
-  module _ (m : not u ≡ false) (t : Bool) (q : t ≡ isWire key) where
-    pub no-name : (w : Bool) → not t ≡ true → false ≡ goodKey w key
-    unfolding goodKey ordinaryKey wildcardKey pick
-    no-name true n = rw (← q, not-true t n)
-    no-name false n = rw (← q, not-true t n)
+    pub name-lowered : (t : Bool) → not u ≡ false → t ≡ isWire key → t ≡ lowName key
+    unfolding lowName
+    name-lowered t m q = rw (← p, not-false u m, ← q, and-true t)
 
-    pub plain-key : (w v : Bool) → not t ≡ false → not w ≡ true → v ≡ wild key → not v ≡ goodKey w key
-    unfolding goodKey ordinaryKey pick
-    plain-key w v n e k = rw (not-true w e, ← q, not-false t n, ← p, not-false u m, k)
+  pub good-is : (w : Bool) → goodKey w key ≡ (lowName key && fitsOwner w key)
+  unfolding goodKey lowName fitsOwner ordinaryKey wildcardKey pick
+  good-is true = refl
+  good-is false = refl
 
-    pub key-long : (w : Bool) → not t ≡ false → not w ≡ false → 253 < length key → false ≡ goodKey w key
-    unfolding goodKey wildcardKey pick
-    key-long w n e h = rw (not-false w e, ← q, not-false t n, ← p, not-false u m, lt-leb (length key) 253 h)
-
-    pub wild-key : (w : Bool) → not t ≡ false → not w ≡ false → length key ≤ 253 → true ≡ goodKey w key
-    unfolding goodKey wildcardKey pick
-    wild-key w n e h = rw (not-false w e, ← q, not-false t n, ← p, not-false u m, le-leb (length key) 253 h)
-
-pub ruleset key·laws = (needs, not-lowered, no-name, plain-key, key-long, wild-key)
+pub ruleset key·laws = (needs, not-lowered, name-lowered)

@@ -1,23 +1,16 @@
--- The loop that judges names on the wire, and the label `*`.
+-- The loop that judges names on the wire.
 use mathlib.Core.Path.{_≡_, refl, _∙_, sym}
-use mathlib.Core.Bool.{Bool, true, false, _&&_, and-true, and-false}
+use mathlib.Core.Bool.{false, _&&_, and-false}
 use mathlib.Core.List.{List, [], _∷_}
 use Prim.Native.Nat.{ℕ, zero, suc, _+_, _-_, _<_, _≤_}
 use native.Mathlib.Omega.{arith}
 use borrow.Author.Needs.{needs}
-use borrow.Author.Tests.{eq-eqb, ne-eqb, le-leb, lt-leb, eqb-true, eqb-false}
+use borrow.Author.Tests.{ne-eqb, le-leb, lt-leb}
 use lib.Dec.{eqb, leb}
 use lib.ListN.{length, getD, drop, length-drop, drop-of-length-le}
 use lib.Seq.{drop-drop}
-use Rattle.rules.specs.Lists.{beginsWith}
 use Rattle.rules.specs.Names.{labels, isWire, longestName}
-use Rattle.rules.specs.Bytes.{wild}
 use Rattle.wire.proofs.Steps.{left-at}
-
--- a test that says what another does
-eqb-is : (a b : ℕ) (t : Bool) → (t ≡ true → a ≡ b) → (t ≡ false → a ≡ b → ⊥) → t ≡ eqb a b
-eqb-is a b true f g = sym (eq-eqb a b (f refl))
-eqb-is a b false f g = sym (ne-eqb a b (g refl))
 
 -- the bytes of a label are passed over
 labels-pass : (k : ℕ) (n : List ℕ) → labels k n ≡ labels 0 (drop k n)
@@ -80,24 +73,3 @@ module _ (name : List ℕ) (i : ℕ) (e : labels 0 (drop i name) ≡ isWire name
       rw (left-at name i (omega arith), at-last (getD name i 0) (drop (i + 1) name) (omega (arith, length-drop (i + 1) name)), q) at e
 
 pub ruleset wire·laws = (needs, too-long, no-byte, short-enough, closed-early, label-long, label-passed, passed-last, closed)
-
--- the label `*` in front
-pub one-byte : (key : List ℕ) → length key < 2 → false ≡ wild key
-unfolding wild beginsWith
-one-byte [] h = refl
-one-byte (a ∷ []) h = rw (and-false (eqb 1 a))
-one-byte (a ∷ b ∷ key) h = absurd (omega arith)
-
-pub other-label : (key : List ℕ) → 2 ≤ length key → (getD key 0 0 ≡ 1 → ⊥) → false ≡ wild key
-unfolding wild beginsWith
-other-label [] h q = absurd (omega arith)
-other-label (a ∷ []) h q = absurd (omega arith)
-other-label (a ∷ b ∷ key) h q = rw (ne-eqb 1 a (λ e. q (sym e)))
-
-pub one-star : (key : List ℕ) → 2 ≤ length key → getD key 0 0 ≡ 1 → eqb (getD key 1 0) 42 ≡ wild key
-unfolding wild beginsWith
-one-star [] h q = absurd (omega arith)
-one-star (a ∷ []) h q = absurd (omega arith)
-one-star (a ∷ b ∷ key) h q = rw (eq-eqb 1 a (sym q), and-true (eqb 42 b)) (eqb-is 42 b (eqb b 42) (λ t. sym (eqb-true b 42 t)) (λ t e. eqb-false b 42 t (sym e)))
-
-pub ruleset wild·laws = (needs, one-byte, other-label, one-star)

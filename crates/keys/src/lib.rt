@@ -3,9 +3,8 @@ ghost use mathlib.Core.Path.{_≡_};
 ghost use mathlib.Core.Bool.{_&&_};
 ghost use lib.Dec.{leb};
 ghost use Rattle.rules.specs.Names.{isWire};
-ghost use Rattle.rules.specs.Bytes.{wild};
 ghost use Rattle.rules.specs.Reading.{lowered};
-ghost use Rattle.keys.specs.Keys.{goodKey};
+ghost use Rattle.keys.specs.Keys.{lowName};
 use wire::get::wide;
 
 // Whether bytes are a name on the wire. It goes from label to label up to the last byte, which is known by its place: to read it nothing has
@@ -86,35 +85,13 @@ fn is_lowered(key: &[u8]) -> bool
     is_lowered_part(&key[last..])
 }
 
-// Whether the first label of a name is just `*`.
-fn is_wild(key: &[u8]) -> bool
-    ensures { λ r. ⌜ r ≡ wild (now (key .entry)) ⌝ }
-{
-    if key.len() < 2 {
-        return false;
-    }
-    if key[0] != 1 {
-        return false;
-    }
-    key[1] == 42
-}
-
-// Whether a key is a name that a record, or a wildcard record, can have. Letters first: behind is_wire the last byte would be known, and the
-// last 16 no longer looked at together.
-pub fn is_good_key(key: &[u8], wild: bool) -> bool
-    ensures { λ r. ⌜ r ≡ goodKey wild (now (key .entry)) ⌝ }
+// Whether a key is a name free of A to Z, as that of every record with an owner is. Letters first: behind is_wire the last byte would be
+// known, and the last 16 no longer looked at together.
+pub fn is_low_name(key: &[u8]) -> bool
+    ensures { λ r. ⌜ r ≡ lowName (now (key .entry)) ⌝ }
 {
     if !is_lowered(key) {
         return false;
     }
-    if !is_wire(key) {
-        return false;
-    }
-    if !wild {
-        return !is_wild(key);
-    }
-    if 253 < key.len() {
-        return false;
-    }
-    true
+    is_wire(key)
 }

@@ -2,6 +2,7 @@
 use mathlib.Core.Path.{_≡_, refl, _∙_, sym}
 use mathlib.Core.Bool.{Bool, true, false, not, _&&_}
 use mathlib.Core.List.{List, []}
+use mathlib.Core.Option.{Option, none, some}
 use Prim.Native.Nat.{ℕ, _-_, max}
 use native.Mathlib.Omega.{arith}
 use borrow.Author.Needs.{needs}
@@ -9,13 +10,17 @@ use borrow.Author.Tests.{eq-eqb, ne-eqb, eqb-true}
 use lib.ListN.{take, drop}
 use lib.Dec.{eqb}
 use Rattle.rules.specs.Lists.{pick, valueOr}
+use Rattle.rules.specs.Records.{Record, location, resource}
 use Rattle.rules.specs.Reading.{recordIn, decode}
 use Rattle.stream.specs.declared.Span.{Span}
-use Rattle.stream.specs.Spans.{IsSpan}
+use Rattle.stream.specs.Spans.{part, IsSpan}
 use Rattle.ranks.specs.Ranks.{endsIn, rankIn, largest, seenRank}
 use Rattle.ranks.proofs.KeyRanks.{unrelated}
 use Rattle.ranks.proofs.Related.{not-end}
 use Rattle.level.proofs.Bests.{rest-whole, no-larger}
+use Rattle.unrelated.specs.declared.Step.{Step}
+use Rattle.unrelated.specs.declared.Met.{Met}
+use Rattle.unrelated.specs.Passed.{stepOf, stepAt, Passed, none-yet, one-more, Past}
 use Rattle.locate.specs.Skips.{Skips, skipped}
 use Rattle.picks.proofs.Picking.{other-rank, not-picked}
 
@@ -69,15 +74,33 @@ module _ (name stream : List ℕ) where
             (other-rank type name here moment best key rdata 0 (no-rank here moment) (λ e. z (sym e))) refl;
       }
 
-pub skips-more : (name stream : List ℕ) (from at : ℕ) (span : Span) (r : ℕ) → Skips name stream from → IsSpan stream at span
-    → r ≡ skipped name (take (span .middle - span .start) (drop (span .start) stream)) from at (span .next) → Skips name stream r
+-- and the records that are passed behind it
+passes-other : (name key : List ℕ) (o : Option Record) → stepOf name key o ≡ Step.Passes → endsIn name key ≡ false
+unfolding stepOf
+passes-other name key none e = let z : _≡_ {A = ℕ} 0 1 = cc in absurd (omega arith)
+passes-other name key (some (location prefix lo)) e = let z : _≡_ {A = ℕ} 0 1 = cc in absurd (omega arith)
+passes-other name key (some (resource owner type lo ttl time rdata)) e = go (endsIn name key) e
+  where
+    go : (t : Bool) → pick t Step.Stops Step.Passes ≡ Step.Passes → t ≡ false
+    go true q = unfold pick in let z : _≡_ {A = ℕ} 0 1 = cc in absurd (omega arith)
+    go false q = refl
+
+passed-skips : (name stream : List ℕ) (from : ℕ) {r : ℕ} → Passed name stream from r → Skips name stream from → Skips name stream r
+passed-skips name stream from none-yet s = s
+passed-skips name stream from (one-more at span p i e) s = past name stream at (passed-skips name stream from p s) span i (unfold stepAt part in passes-other name _ _ e)
+
+pub first-skips : (name stream : List ℕ) (met : Met) → Past name stream 0 met → Skips name stream (met .at)
+first-skips name stream met p = passed-skips name stream 0 (p .passed) (skips-none name stream)
+
+pub skips-more : (name stream : List ℕ) (from at : ℕ) (span : Span) (met : Met) (r : ℕ) → Skips name stream from → IsSpan stream at span → Past name stream (span .next) met
+    → r ≡ skipped name (take (span .middle - span .start) (drop (span .start) stream)) from at (met .at) → Skips name stream r
 unfolding skipped pick
-skips-more name stream from at span r s i e = go (eqb from at) (endsIn name key′) refl refl e
+skips-more name stream from at span met r s i m e = go (eqb from at) (endsIn name key′) refl refl e
   where
     key′ : List ℕ
     key′ = take (span .middle - span .start) (drop (span .start) stream)
 
-    go : (a b : Bool) → eqb from at ≡ a → endsIn name key′ ≡ b → r ≡ pick (a && not b) (span .next) from → Skips name stream r
+    go : (a b : Bool) → eqb from at ≡ a → endsIn name key′ ≡ b → r ≡ pick (a && not b) (met .at) from → Skips name stream r
     go false b p q e = rw e s
     go true true p q e = rw e s
-    go true false p q e = rw e (past name stream at (rw (eqb-true from at p) at s) span i q)
+    go true false p q e = rw e (passed-skips name stream (span .next) (m .passed) (past name stream at (rw (eqb-true from at p) at s) span i q))

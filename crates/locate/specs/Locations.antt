@@ -21,9 +21,8 @@ locatedFrom client best none = none
 locatedFrom client best (some rs) = some (bestOf client best rs .lo)
 
 -- what the code's answers mean
-unfoldable pub bestSeen : Located → Option Best
-bestSeen Located.Broken = none
-bestSeen (Located.Best lo least) = some (record { lo = loBytes lo; atLeast = least })
+unfoldable pub bestSeen : Located → Best
+bestSeen r = record { lo = loBytes (r .lo); atLeast = r .least }
 
 unfoldable pub judgedLo : Judged → Option (List ℕ)
 judgedLo Judged.Broken = none

@@ -1,22 +1,25 @@
 // The pass that judges a stream and finds the client's location.
 ghost use mathlib.Core.Path.{_≡_};
+ghost use mathlib.Core.Bool.{true};
 ghost use mathlib.Core.List.{map};
-ghost use Rattle.rules.specs.Lists.{lower, beginsWith};
+ghost use mathlib.Core.Option.{some};
+ghost use Rattle.rules.specs.Lists.{lower, isSome, beginsWith};
 ghost use Rattle.rules.specs.Records.{loBytes};
 ghost use Rattle.rules.specs.Questions.{matches};
 ghost use Rattle.rules.specs.Reading.{recordIn, decode};
 ghost use Rattle.locate.specs.Locations.{bestSeen, betterIn, judgedLo, locatedIn, fromIn};
 ghost use Rattle.locate.specs.Skips.{Skips, skipped};
 use judge::Seen;
-use judge::record_in;
+use judge::known::known_in;
 use ranks::is_end;
 use rules::quantities::Lo;
 use stream::span_at;
+use unrelated::past_unrelated;
 
-// The location of the longest prefix so far, and how long a better prefix is at least; or that a record is malformed.
-enum Located {
-    Broken,
-    Best { lo: Lo, least: usize },
+// The location of the longest prefix so far, and how long a better prefix is at least.
+struct Located {
+    lo: Lo,
+    least: usize,
 }
 
 // Whether a stream is whole records, and then the client's location, and a place before which no record can answer.
@@ -54,25 +57,26 @@ fn matches(client: &[u8], prefix: &[u8]) -> bool
 
 // The better of the location so far and that of one record.
 fn better_in(client: &[u8], lo: Lo, least: usize, key: &[u8], rdata: &[u8]) -> Located
-    ensures { λ r. ⌜ bestSeen r ≡ betterIn (now (client .entry)) (record { lo = loBytes lo; atLeast = least }) (recordIn (now (key .entry)) (now (rdata .entry))) ⌝ }
+    requires { ⌜ isSome (recordIn (now key) (now rdata)) ≡ true ⌝ }
+    ensures { λ r. ⌜ some (bestSeen r) ≡ betterIn (now (client .entry)) (record { lo = loBytes lo; atLeast = least }) (recordIn (now (key .entry)) (now (rdata .entry))) ⌝ }
 {
-    match record_in(key, rdata) {
-        Seen::Broken => Located::Broken,
+    match known_in(key, rdata) {
+        Seen::Broken => Located { lo, least },
         Seen::Resource {
             wild: _,
             rtype: _,
             shared: _,
             fixed: _,
-        } => Located::Best { lo, least },
+        } => Located { lo, least },
         Seen::Location(found) => {
             if !matches(client, &key[2..]) {
-                return Located::Best { lo, least };
+                return Located { lo, least };
             }
             let long = key.len() - 2;
             if long < least {
-                return Located::Best { lo, least };
+                return Located { lo, least };
             }
-            Located::Best {
+            Located {
                 lo: found,
                 least: long + 1,
             }
@@ -80,7 +84,7 @@ fn better_in(client: &[u8], lo: Lo, least: usize, key: &[u8], rdata: &[u8]) -> L
     }
 }
 
-// Behind a record whose key isn't the end of a name, and so can't answer for it, as long as none that is has been met.
+// A place before which no record can answer, once a record, and all behind it up to the next place, are known not to, or the record is.
 fn behind(name: &[u8], key: &[u8], from: usize, at: usize, next: usize) -> usize
     ensures { λ r. ⌜ r ≡ skipped (map lower (now (name .entry))) (now (key .entry)) from at next ⌝ }
 {
@@ -101,33 +105,32 @@ pub fn judge_and_locate(stream: &[u8], client: &[u8], name: &[u8]) -> Judged
     let n = stream.len();
     let mut lo = Lo::Every;
     let mut least: usize = 0;
-    let mut from: usize = 0;
-    let mut at: usize = 0;
+    let first = past_unrelated(stream, name, 0);
+    let mut whole = first.whole;
+    let mut at = first.at;
+    let mut from = at;
     while at < n {
+        if !whole {
+            return Judged::Broken;
+        }
         let span = span_at(stream, at);
         let start = span.start;
         let middle = span.middle;
         let next = span.next;
-        match better_in(
+        let best = better_in(
             client,
             lo,
             least,
             &stream[start..middle],
             &stream[middle..next],
-        ) {
-            Located::Broken => {
-                return Judged::Broken;
-            }
-            Located::Best {
-                lo: best,
-                least: most,
-            } => {
-                lo = best;
-                least = most;
-                from = behind(name, &stream[start..middle], from, at, next);
-                at = next;
-            }
-        }
+        );
+        lo = best.lo;
+        least = best.least;
+        let met = past_unrelated(stream, name, next);
+        let stop = met.at;
+        whole = met.whole;
+        from = behind(name, &stream[start..middle], from, at, stop);
+        at = stop;
     }
     Judged::Whole(lo, from)
 }

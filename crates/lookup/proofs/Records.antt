@@ -1,5 +1,5 @@
 -- The laws of records at the front of a buffer.
-use mathlib.Core.Path.{_≡_, refl, ap, _∙_, sym}
+use mathlib.Core.Path.{_≡_, refl, ap, _∙_}
 use mathlib.Core.Bool.{Bool, true, false}
 use mathlib.Core.List.{List}
 use Prim.Native.Nat.{ℕ, _≤_}
@@ -17,7 +17,6 @@ use Rattle.compiler.specs.Compiled.{IsCompiled}
 use Rattle.refusals.proofs.Numbers.{zero-done, other-refused}
 use Rattle.wire.proofs.Parts.{front-count}
 use Rattle.lookup.specs.Answers.{IsRecords, frontOf}
-use Rattle.files.specs.Fronts.{IsFront}
 use Rattle.files.proofs.Fronts.{whole}
 
 -- a fault that is done and is not

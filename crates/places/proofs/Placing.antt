@@ -1,8 +1,8 @@
 -- The record at a place, from the head of what is left.
 use mathlib.Core.Path.{_≡_, refl, ap, _∙_, sym}
-use mathlib.Core.Bool.{Bool, true, false, not}
+use mathlib.Core.Bool.{Bool, true, false}
 use mathlib.Core.List.{List}
-use Prim.Native.Nat.{ℕ, zero, suc, _+_, _-_, _<_, _≤_}
+use Prim.Native.Nat.{ℕ, zero, suc, _-_, _<_, _≤_}
 use native.Mathlib.Omega.{arith}
 use borrow.Author.Needs.{needs}
 use lib.ListN.{length, take, drop, length-drop}
@@ -16,7 +16,6 @@ use Rattle.stream.specs.Heads.{recordAt}
 use Rattle.stream.specs.Spans.{part, IsSpan}
 use Rattle.judge.specs.Seen.{seenRecord}
 use Rattle.stream.proofs.Heads.{malformed}
-use Rattle.places.specs.declared.Found.{Found}
 use Rattle.places.specs.Places.{nothingAt, placesAt, foundAt}
 
 -- ---- whether a key and data are a record

@@ -1,7 +1,7 @@
 -- The data that asking hands out lie within the bytes asked.
 use mathlib.Core.Path.{_≡_, refl}
 use mathlib.Core.Bool.{not}
-use mathlib.Core.List.{List, [], _∷_, map}
+use mathlib.Core.List.{List, [], _∷_}
 use mathlib.Core.Option.{Option, none, some}
 use Prim.Native.Nat.{ℕ, zero, suc, _+_, _-_, _≤_}
 use native.Mathlib.Omega.{arith}
@@ -12,9 +12,9 @@ use Rattle.rules.specs.Names.{isWire}
 use Rattle.rules.specs.Records.{Record}
 use Rattle.rules.specs.Bytes.{dataOf, rdataOf, size, sizeOfAll}
 use Rattle.rules.specs.Questions.{Question, Placed, placedFrom, answers}
-use Rattle.rules.specs.Reading.{recordIn, ontoRecords, decodeOne, decodeFrom, decode, replyOf, replyFrom, replyDecoded, momentEnd, isClient, askReply}
+use Rattle.rules.specs.Reading.{ontoRecords, decodeOne, decodeFrom, decode, replyOf, replyFrom, replyDecoded, momentEnd, isClient, askReply}
 use Rattle.rules.proofs.Tests.{pick-ok, tests}
-use Rattle.rules.proofs.Lists.{OnSome, All, nil, cons, all-at, all-head, all-tail}
+use Rattle.rules.proofs.Lists.{OnSome, All, nil, cons, all-at}
 use Rattle.rules.proofs.Meaning.{answers-all}
 use Rattle.judge.proofs.Shapes.{Shape, shape, size-is}
 use Rattle.rules.specs.declared.quantities.Ttl.{Ttl}

@@ -1,7 +1,7 @@
 -- The laws of a question's parts.
-use mathlib.Core.Path.{_≡_, refl, ap, _∙_, sym}
-use mathlib.Core.Bool.{Bool, true, false, not, _&&_, and-false}
-use mathlib.Core.List.{List, []}
+use mathlib.Core.Path.{_≡_, refl, _∙_, sym}
+use mathlib.Core.Bool.{Bool, true, false, not}
+use mathlib.Core.List.{List}
 use mathlib.Core.Option.{Option, none, some}
 use Prim.Native.Nat.{ℕ, _-_}
 use native.Mathlib.Omega.{arith}
@@ -13,7 +13,6 @@ use mir.Syntax.{w16}
 use Rattle.rules.specs.Lists.{pick, valueOr, isSome}
 use Rattle.rules.specs.Names.{NameRead, named, misnamed, nameOf, wireOf}
 use Rattle.rules.specs.Fields.{numberOf, largestShort, addressOf}
-use Rattle.rules.specs.Questions.{Question}
 use Rattle.rules.specs.Reading.{askReply}
 use Rattle.rules.specs.declared.replies.Reply.{Reply}
 use Rattle.rules.specs.declared.faults.NameFault.{NameFault}
@@ -27,11 +26,11 @@ use Rattle.judged_names.specs.Views.{judgedOf}
 use Rattle.names.specs.Views.{isNamed}
 use Rattle.judged_names.specs.declared.judged.NameJudged.{NameJudged}
 use Rattle.wire.proofs.Parts.{front-count}
-use Rattle.addresses.specs.HeldAddress.{heldAddress, IsHeld}
+use Rattle.addresses.specs.HeldAddress.{IsHeld}
 use Rattle.names.specs.Held.{heldName, IsName}
 use Rattle.names.specs.declared.names.Name.{Name}
 use Rattle.questions.specs.Questions.{momentOf, Asker, askerOf, Asked, askedOf, questionFrom, questionIn, questionOf}
-use Rattle.questions.specs.Views.{momentRead, askerRead, IsAsker, IsWithin, IsNameRead, askedRead, IsAsked, spansRead, IsSpans, heldQuestion, questionRead, IsQuestion}
+use Rattle.questions.specs.Views.{momentRead, askerRead, IsAsker, IsNameRead, askedRead, IsAsked, spansRead, IsSpans, heldQuestion, questionRead, IsQuestion}
 use Rattle.questions.specs.Replies.{lineReply}
 use Rattle.questions.specs.declared.spans.Spans.{Spans}
 use Rattle.questions.specs.declared.questions.QuestionRead.{QuestionRead}

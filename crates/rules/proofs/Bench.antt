@@ -1,6 +1,5 @@
 -- 01, Bench examples: the tables hold, by computation alone.
 use mathlib.Core.Path.{refl}
-use mathlib.Core.List.{List}
 use Rattle.rules.specs.Lists.{pick, valueOr, isSome, keep, all, joinAll, has, sameBytes, beginsWith, ontoFirst, splitOn, le, be, fromLE, fromBE, lower}
 use Rattle.rules.specs.Kinds.{linesOf, blank, beforeStripped, strip, ignored, kindOf, common, meanings, fieldCount, defaultTtl, fieldAt}
 use Rattle.rules.specs.Names.{nameByte, label, longestName, ifNotTooLong, nameFrom, nameOf, wireIn, wireOf, labels, isWire}

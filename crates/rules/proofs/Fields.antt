@@ -1,19 +1,19 @@
 -- What holds of the value of every field, and of a field without a fault.
-use mathlib.Core.Path.{_≡_, refl}
-use Prim.Native.Nat.{ℕ, suc, _+_, _-_, _*_, _≤_, _<_}
+use mathlib.Core.Path.{_≡_}
+use Prim.Native.Nat.{ℕ, _-_, _*_, _≤_, _<_}
 use native.Mathlib.Omega.{arith}
-use mathlib.Core.Bool.{Bool, true, false, not, _&&_, _||_}
-use mathlib.Core.List.{List, [], _∷_, _++_, map}
+use mathlib.Core.Bool.{Bool, true, false, not, _||_}
+use mathlib.Core.List.{List, [], _∷_}
 use mathlib.Core.Option.{Option, none, some}
 use lib.ListN.{length}
-use lib.Dec.{T, leb, eqb, leb→le}
+use lib.Dec.{T}
 use Rattle.rules.specs.declared.faults.Fault.{Fault}
 use Rattle.rules.specs.declared.faults.FieldKind.{FieldKind}
 use Rattle.rules.specs.declared.kinds.Meaning.{Meaning}
 use Rattle.rules.specs.declared.quantities.Lo.{Lo}
-use Rattle.rules.specs.Lists.{pick, valueOr, all, joinAll, splitOn, has}
+use Rattle.rules.specs.Lists.{valueOr, splitOn, has}
 use Rattle.rules.specs.Names.{NameRead, named, misnamed, nameOf, wireIn, wireOf}
-use Rattle.rules.specs.Fields.{numberOf, hexFrom, decimalFrom, group, groupBytes, octet, octetByte, addressIf, addressOf, prefixOf, timeOf, letter, loOf, ontoText, textOf, unless, nameFault, needed, faultOf}
+use Rattle.rules.specs.Fields.{numberOf, hexFrom, groupBytes, octetByte, addressIf, addressOf, prefixOf, timeOf, loOf, ontoText, textOf, unless, nameFault, needed, faultOf}
 use Rattle.rules.specs.Records.{numberOr, addressIn, loBytes}
 use Rattle.rules.specs.Answers.{isDone}
 use Rattle.rules.specs.Reading.{isLo}

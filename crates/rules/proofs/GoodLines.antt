@@ -1,22 +1,18 @@
 -- What a line without a fault says of its fields.
-use mathlib.Core.Path.{_≡_, refl}
-use Prim.Native.Nat.{ℕ, zero, suc, _≤_}
-use native.Mathlib.Omega.{arith}
-use mathlib.Core.Bool.{Bool, true, false, not, _&&_}
+use Prim.Native.Nat.{ℕ, suc, _≤_}
+use mathlib.Core.Bool.{not}
 use mathlib.Core.List.{List, [], _∷_}
 use lib.ListN.{length}
-use lib.Dec.{T, leb, ltb, leb→le, nltb→le}
-use Rattle.rules.specs.declared.faults.Fault.{Fault}
+use lib.Dec.{T, leb→le, nltb→le}
 use Rattle.rules.specs.declared.faults.LineFault.{LineFault}
 use Rattle.rules.specs.declared.kinds.Kind.{Kind}
 use Rattle.rules.specs.declared.kinds.Meaning.{Meaning}
-use Rattle.rules.specs.Lists.{pick, all, splitOn}
-use Rattle.rules.specs.Kinds.{strip, ignored, kindOf, meanings, fieldCount, fieldAt}
+use Rattle.rules.specs.Kinds.{strip, meanings, fieldAt}
 use Rattle.rules.specs.Names.{longestName}
 use Rattle.rules.specs.Fields.{faultOf}
 use Rattle.rules.specs.Records.{joinedNames}
-use Rattle.rules.specs.Answers.{isDone, noFault, thenFault, fieldsFault, joinedFault, wholeLine, kindFault, strippedFault, longestLine, lineFault, isGood}
-use Rattle.rules.proofs.Tests.{pick-ok, tests}
+use Rattle.rules.specs.Answers.{isDone, thenFault, fieldsFault, joinedFault, wholeLine, kindFault, strippedFault, longestLine, lineFault, isGood}
+use Rattle.rules.proofs.Tests.{pick-ok}
 use Rattle.rules.proofs.Lists.{All, all-of, all-weaken}
 
 abbrev pub Done : LineFault → Type 0

@@ -60,11 +60,6 @@ pub all-map {ℓ κ} : {A : Type ℓ} {B : Type κ} {P : B → Type 0} (f : A �
 all-map f [] h = nil
 all-map f (x ∷ xs) h = cons (h x) (all-map f xs h)
 
-pub all-join {ℓ κ} : {A : Type ℓ} {B : Type κ} {P : B → Type 0} (f : A → List B) (xs : List A) → ((x : A) → All P (f x)) → All P (joinAll (map f xs))
-unfolding joinAll
-all-join f [] h = nil
-all-join f (x ∷ xs) h = all-append (h x) (all-join f xs h)
-
 -- ---- a map that a test does not see
 
 module _ {ℓ} {A B : Type ℓ} (f : A → B) where

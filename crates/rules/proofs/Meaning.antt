@@ -10,9 +10,7 @@ use lib.ListN.{length, take, drop, getElem?, length-append}
 use lib.Seq.{take-at, take-append-seam, drop-append-seam}
 use lib.Dec.{T, eqb}
 use lib.Arith.{lt→nleb}
-use Rattle.rules.specs.declared.replies.Reply.{Reply}
 use Rattle.rules.specs.declared.faults.Fault.{Fault}
-use Rattle.rules.specs.declared.faults.Answer.{Answer}
 use Rattle.rules.specs.Lists.{pick, keep, all, joinAll, le}
 use Rattle.rules.specs.Kinds.{linesOf}
 use Rattle.rules.specs.Names.{isWire}
@@ -20,9 +18,9 @@ use Rattle.rules.specs.Records.{Record}
 use Rattle.rules.specs.Bytes.{keyOf, rdataOf, fixedOf, dataOf, encode, size, sizeOfAll, bytesOf}
 use Rattle.rules.specs.Answers.{isDone, isGood, lineRecords, sourceRecords, answer, compileAnswer, compileOutput}
 use Rattle.rules.specs.Questions.{Placed, placedFrom, Question, wildcardOf, ancestors, firstFull, level, answers}
-use Rattle.rules.specs.Reading.{momentEnd, isClient, typeOf, replyOf, replyFrom, replyDecoded, askReply}
-use Rattle.rules.specs.Demands.{Accepted, needed, CompilingRefusesExactly, compiledBytes, Hands, Gives, CompilingKeepsTheMeaning}
-use Rattle.rules.proofs.Tests.{pick-yes, pick-no, and-l, and-r}
+use Rattle.rules.specs.Reading.{momentEnd, isClient, replyOf, replyFrom, replyDecoded, askReply}
+use Rattle.rules.specs.Demands.{Accepted, needed, CompilingRefusesExactly, compiledBytes, Gives, CompilingKeepsTheMeaning}
+use Rattle.rules.proofs.Tests.{pick-no, and-l, and-r}
 use Rattle.rules.proofs.Lists.{OnSome, All, nil, cons, all-append, all-keep, all-at, all-map}
 use Rattle.rules.proofs.Records.{Ok, line-ok}
 use Rattle.rules.proofs.Decoding.{decode-back, size-is}

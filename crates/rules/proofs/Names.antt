@@ -1,15 +1,14 @@
 -- Laws of names: what reads as a name is one on the wire.
-use mathlib.Core.Path.{_≡_, refl, sym, _∙_}
-use Prim.Native.Nat.{ℕ, zero, suc, _+_, _≤_}
+use mathlib.Core.Path.{_≡_, refl}
+use Prim.Native.Nat.{ℕ, suc, _+_, _≤_}
 use native.Mathlib.Omega.{arith}
-use mathlib.Core.Bool.{Bool, true, false, not, _&&_}
+use mathlib.Core.Bool.{not}
 use mathlib.Core.List.{List, [], _∷_, _++_, append-assoc}
 use lib.ListN.{length, length-append}
 use lib.Dec.{T, leb, eqb, nleb→lt}
 use mir.Facts.{yes-and, yes-leb, or-no, T-not}
-use Rattle.rules.specs.declared.faults.NameFault.{NameFault}
-use Rattle.rules.specs.Lists.{pick, has, sameBytes}
-use Rattle.rules.specs.Names.{NameRead, named, misnamed, nameByte, label, longestName, ifNotTooLong, nameFrom, nameOf, wireIn, wireOf, labels, isWire}
+use Rattle.rules.specs.Lists.{has}
+use Rattle.rules.specs.Names.{NameRead, named, misnamed, label, longestName, ifNotTooLong, nameFrom, nameOf, labels, isWire}
 use Rattle.rules.proofs.Tests.{pick-ok, tests, passes}
 use Rattle.rules.proofs.Lists.{same-length}
 

@@ -1,19 +1,19 @@
 -- The records of a good line are sound: what decoding asks of them holds.
-use mathlib.Core.Path.{_≡_, refl}
+use mathlib.Core.Path.{_≡_}
 use Prim.Native.Nat.{ℕ, zero, suc, _+_, _*_, _≤_, _<_}
 use native.Mathlib.Omega.{arith}
-use mathlib.Core.Bool.{Bool, true, false, not}
+use mathlib.Core.Bool.{Bool, true, false}
 use mathlib.Core.List.{List, [], _∷_, _++_, map, reverse}
 use lib.ListN.{length, drop, length-append, length-take, length-drop, length-reverse}
-use lib.Dec.{T, eqb, nleb→lt}
+use lib.Dec.{T, nleb→lt}
 use Rattle.rules.specs.declared.kinds.Kind.{Kind}
 use Rattle.rules.specs.declared.kinds.Meaning.{Meaning}
 use Rattle.rules.specs.declared.quantities.Shared.{Shared}
 use Rattle.rules.specs.Lists.{pick, valueOr, joinAll, has, be, splitOn}
-use Rattle.rules.specs.Kinds.{beforeStripped, strip, ignored, kindOf, common, meanings, fieldCount, defaultTtl, fieldAt}
+use Rattle.rules.specs.Kinds.{beforeStripped, strip, ignored, kindOf, common, meanings, defaultTtl, fieldAt}
 use Rattle.rules.specs.Names.{label, wireOf, labels}
 use Rattle.rules.specs.Fields.{faultOf, textOf, largestTtl, largestShort}
-use Rattle.rules.specs.Records.{Record, location, resource, loBytes, numberOr, shortAt, sharedOf, resourceOf, hostName, ns, mx, srv, hostmaster, contactOf, joinedNames, decimal, decimalLabel, nibbleLabels, inAddrArpa, ip6Arpa, reverseName, chunksFrom, chunks, soaData, srvData, addressType, addressRecords, soaShared, addressIn, recordsOf}
+use Rattle.rules.specs.Records.{Record, location, resource, loBytes, shortAt, sharedOf, resourceOf, hostName, ns, mx, srv, contactOf, joinedNames, decimal, decimalLabel, nibbleLabels, inAddrArpa, ip6Arpa, reverseName, chunksFrom, chunks, soaData, srvData, addressType, addressRecords, soaShared, addressIn, recordsOf}
 use Rattle.rules.specs.Answers.{isDone, kindFault, strippedFault, isGood, strippedRecords, lineRecords}
 use Rattle.rules.specs.Reading.{isLo}
 use Rattle.rules.proofs.Tests.{pick-ok, tests}

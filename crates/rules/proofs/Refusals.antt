@@ -1,12 +1,12 @@
 -- Compiling refuses exactly where it should: every answer is one of four outcomes, and each is told by its cause.
-use mathlib.Core.Path.{_≡_, refl, sym, ap, _∙_, subst}
+use mathlib.Core.Path.{_≡_, refl, sym, subst}
 use Prim.Native.Nat.{ℕ, zero, suc, _+_, _≤_, _<_}
 use native.Mathlib.Omega.{arith}
-use mathlib.Core.Bool.{Bool, true, false, not, _&&_}
+use mathlib.Core.Bool.{not}
 use mathlib.Core.List.{List, [], _∷_}
 use mathlib.Core.Option.{Option, none, some}
 use lib.ListN.{length, getD}
-use lib.Dec.{T, leb, ltb, leb→le, ltb→lt, nltb→le, nleb→lt, T-not}
+use lib.Dec.{T, leb→le, ltb→lt, nltb→le, nleb→lt, T-not}
 use mir.Facts.{yes-and}
 use Rattle.rules.specs.declared.faults.Fault.{Fault}
 use Rattle.rules.specs.declared.faults.FieldKind.{FieldKind}
@@ -15,14 +15,13 @@ use Rattle.rules.specs.declared.faults.LineFault.{LineFault}
 use Rattle.rules.specs.declared.kinds.Kind.{Kind}
 use Rattle.rules.specs.declared.kinds.Meaning.{Meaning}
 use Rattle.rules.specs.Lists.{pick, all, splitOn}
-use Rattle.rules.specs.Kinds.{linesOf, strip, ignored, kindOf, meanings, fieldAt}
+use Rattle.rules.specs.Kinds.{linesOf, strip, kindOf, meanings, fieldAt}
 use Rattle.rules.specs.Names.{NameRead, named, misnamed}
 use Rattle.rules.specs.Fields.{unless, nameFault, needed, optional, typeFault, faultOf}
-use Rattle.rules.specs.Records.{joinedNames}
 use Rattle.rules.specs.Bytes.{sizeOfAll}
 use Rattle.rules.specs.Answers.{isDone, noFault, thenFault, fieldsFault, joinedFault, wholeLine, kindFault, strippedFault, longestLine, lineFault, isGood, longestSource, sourceRecords, answer, judgeLines, judgeSource, ifRoom, compileAnswer}
 use Rattle.rules.specs.Demands.{needed as neededFor, Accepted, lineAt, FirstBad, RefusesExactly, CompilingRefusesExactly}
-use Rattle.rules.proofs.Tests.{pick-ok, pick-yes, pick-no, and-l, and-r}
+use Rattle.rules.proofs.Tests.{pick-ok, pick-no, and-l, and-r}
 
 -- ---- a line's fault is none of the source's
 

@@ -1,6 +1,5 @@
 -- Laws of tests and of what a test picks.
 use mathlib.Core.Path.{_≡_, refl}
-use Prim.Native.Nat.{ℕ}
 use mathlib.Core.Bool.{Bool, true, false, not, _&&_}
 use lib.Dec.{T, leb→le, ltb→lt, eqb→eq, le→leb, lt→ltb}
 use mir.Facts.{yes-and}

@@ -1,11 +1,9 @@
 -- 01, Bench examples: B1 to B12 as one table under one statement, `bench-holds`.
-use Prim.Native.Nat.{ℕ, zero, suc, _+_, _-_, _*_}
+use Prim.Native.Nat.{ℕ, _+_, _-_, _*_}
 use Prim.Native.String.{String}
-use mathlib.Core.Path.{_≡_, refl}
-use mathlib.Core.Bool.{_&&_, _||_, not}
+use mathlib.Core.Path.{_≡_}
 use mathlib.Core.List.{List, [], _∷_, _++_, map}
 use lib.ListN.{length, take, drop, replicate}
-use Rattle.rules.specs.declared.replies.Reply.{Reply}
 use Rattle.rules.specs.Texts.{bytes}
 use Rattle.rules.specs.Answers.{numbersOf, compileAnswer, compileOutput}
 use Rattle.rules.specs.Questions.{Question}

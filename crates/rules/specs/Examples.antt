@@ -3,7 +3,7 @@ use Prim.Native.Nat.{ℕ}
 use Prim.Native.String.{String}
 use mathlib.Core.Path.{_≡_}
 use mathlib.Core.List.{List, [], _∷_, _++_, map}
-use lib.ListN.{length, replicate}
+use lib.ListN.{replicate}
 use Rattle.rules.specs.Texts.{bytes}
 use Rattle.rules.specs.Questions.{Question}
 use Rattle.rules.specs.Bench.{Case, Said, Told, said, wire, lengths, plain, day, accepted, noMore, compiled, refusedWith, compile, asking, changeover}

@@ -9,7 +9,7 @@ use Rattle.rules.specs.declared.faults.Fault.{Fault}
 use Rattle.rules.specs.declared.faults.FieldKind.{FieldKind}
 use Rattle.rules.specs.declared.kinds.Meaning.{Meaning}
 use Rattle.rules.specs.declared.quantities.Lo.{Lo}
-use Rattle.rules.specs.Lists.{pick, valueOr, all, joinAll, splitOn, has, lower, be}
+use Rattle.rules.specs.Lists.{pick, all, joinAll, splitOn, has, lower, be}
 use Rattle.rules.specs.Names.{NameRead, named, misnamed, nameOf}
 
 -- "Number. 1 to 10 decimal digits", at most a limit

@@ -1,11 +1,10 @@
 -- 01, Who sees what: what a reader takes for records, what it refuses, and what asking answers.
 use Prim.Native.Nat.{ℕ, zero, suc, _+_, _-_}
-use mathlib.Core.Bool.{Bool, true, false, not, _&&_, _||_}
+use mathlib.Core.Bool.{Bool, false, not, _&&_, _||_}
 use mathlib.Core.List.{List, [], _∷_}
 use mathlib.Core.Option.{Option, none, some}
 use lib.ListN.{length, drop, take, getElem?}
 use lib.Dec.{leb, ltb, eqb}
-use Rattle.rules.specs.declared.quantities.Ttl.{Ttl}
 use Rattle.rules.specs.declared.replies.Reply.{Reply}
 use Rattle.rules.specs.declared.replies.AskFault.{AskFault}
 use Rattle.rules.specs.Lists.{pick, all, fromLE, fromBE}

@@ -1,6 +1,5 @@
 -- 01, Lines and fields: what the fields of a line say: names put together, defaults, and the records of each kind.
 use Prim.Native.Nat.{ℕ, zero, suc, _+_, _-_, _/_, _%_}
-use mathlib.Core.Bool.{Bool}
 use mathlib.Core.List.{List, [], _∷_, _++_, map, reverse}
 use lib.ListN.{length, drop, take}
 use lib.Dec.{leb, eqb}

@@ -1,6 +1,5 @@
 // A record of a service: priority, weight, port and host.
 ghost use mathlib.Core.Path.{_≡_};
-ghost use mathlib.Core.List.{_++_};
 ghost use Prim.Native.Nat.{_+_, _≤_};
 ghost use lib.ListN.{length};
 ghost use Rattle.rules.specs.Records.{srvData, resourceOf};

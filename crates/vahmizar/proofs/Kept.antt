@@ -1,21 +1,20 @@
 -- The demands over the calls.
-use mathlib.Core.Path.{_≡_, refl, sym, ap, _∙_, subst}
+use mathlib.Core.Path.{_≡_, sym, ap, _∙_, subst}
 use mathlib.Core.List.{List}
 use Prim.Native.Nat.{ℕ, _≤_}
 use borrow.Author.Tests.{eq-eqb}
-use lib.ListN.{length, take, getElem?}
-use lib.Dec.{T, eqb}
+use lib.ListN.{length, take}
+use lib.Dec.{eqb}
 use Rattle.rules.specs.declared.faults.Answer.{Answer}
 use Rattle.rules.specs.declared.faults.Fault.{Fault}
-use Rattle.rules.specs.declared.replies.Reply.{Reply}
 use Rattle.rules.specs.Lists.{pick}
 use Rattle.rules.specs.Answers.{faultNumber, answer, compileAnswer, compileOutput}
 use Rattle.rules.specs.Questions.{Question}
-use Rattle.rules.specs.Reading.{replyNumber, askReply}
+use Rattle.rules.specs.Reading.{askReply}
 use Rattle.rules.specs.Demands.{Accepted, needed, CompilingRefusesExactly, compiledBytes, CompilingKeepsTheMeaning}
 use Rattle.rules.proofs.Refusals.{refuses-exactly}
 use Rattle.rules.proofs.Meaning.{keeps-the-meaning}
-use Rattle.vahmizar.specs.Promises.{Compiles, Asks, Answered, TheCallRefusesExactly, Askable, Tells, Told, TheCallsKeepTheMeaning}
+use Rattle.vahmizar.specs.Promises.{TheCallRefusesExactly, Askable, Tells, TheCallsKeepTheMeaning}
 
 -- past the check of the answer's length
 past {ℓ} : {A : Type ℓ} (n : ℕ) (s : List ℕ) (x y z : A) → length s ≡ n → x ≡ pick (eqb (length s) n) y z → x ≡ y

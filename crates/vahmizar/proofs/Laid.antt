@@ -1,14 +1,13 @@
 -- The numbers of an answer laid into its slice.
-use mathlib.Core.Path.{_≡_, refl, sym, ap, _∙_}
-use mathlib.Core.List.{List, [], _∷_, _++_, append-assoc, append-nil, map}
+use mathlib.Core.Path.{_≡_, ap, _∙_}
+use mathlib.Core.List.{List, [], _∷_, _++_, append-assoc, append-nil}
 use Prim.Native.Nat.{ℕ, _≤_}
 use native.Mathlib.Omega.{arith}
 use borrow.Author.Needs.{needs}
 use borrow.Author.Tests.{eq-eqb, ne-eqb}
-use lib.ListN.{length, drop, drop-of-length-le}
-use lib.Dec.{eqb}
+use lib.ListN.{length, drop-of-length-le}
 use Rattle.rules.specs.Lists.{pick, joinAll, le}
-use Rattle.rules.specs.Answers.{faultNumber, numbersOf, compileAnswer, compileOutput}
+use Rattle.rules.specs.Answers.{faultNumber, numbersOf}
 use Rattle.rules.specs.Questions.{Question}
 use Rattle.rules.specs.Reading.{replyNumber, replyNumbers, replyValues, askReply}
 use Rattle.rules.specs.declared.faults.Answer.{Answer}

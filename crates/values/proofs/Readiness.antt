@@ -36,9 +36,6 @@ module _ (s : List ℕ) (spans : List Span) where
   pub ready-fields : (kind : Kind) → Ready kind s spans → FieldsOf s spans
   ready-fields kind r = r .fields
 
-  pub line-short : (kind : Kind) → Ready kind s spans → length s ≤ 1024
-  line-short kind r = r .short
-
   -- each field reads as its meaning
   pub done : (kind : Kind) → Ready kind s spans → FieldsDone 0 (meanings kind) (splitOn 58 s)
   done kind r = kind-done kind (splitOn 58 s) (r .good) .0

@@ -4,7 +4,6 @@ use mathlib.Core.Bool.{Bool, true, false, _&&_}
 use mathlib.Core.List.{List, [], _∷_, map}
 use Prim.Native.Nat.{ℕ, suc, _+_, _<_, _≤_}
 use native.Mathlib.Omega.{arith}
-use borrow.Author.Needs.{needs}
 use borrow.Author.Tests.{eq-eqb, ne-eqb}
 use lib.Dec.{eqb}
 use lib.ListN.{length, getD, drop, drop-of-length-le, length-map, List·getD-map}
@@ -38,8 +37,6 @@ module _ (a b : List ℕ) (i : ℕ) (e : sameBytes (drop i a) (drop i b) ≡ sam
   pub same-end : length a ≤ i → length a ≡ length b → true ≡ sameBytes a b
   unfolding sameBytes
   same-end h l = rw (drop-of-length-le a h, drop-of-length-le b {i = i} (omega arith)) at e
-
-pub ruleset same·laws = (needs, other-length, same-next, differs, same-end)
 
 pub too-short : (a b : List ℕ) → length b < length a → false ≡ beginsWith a b
 unfolding beginsWith

@@ -2,3 +2,4 @@ pub mod Compare
 pub mod Numbers
 pub mod Parts
 pub mod Steps
+pub mod WildNames

@@ -1,6 +1,6 @@
 -- Numbers as bytes: their count, and the numbers that bytes are, one byte after the other.
 use mathlib.Core.Path.{_≡_, refl, ap}
-use mathlib.Core.List.{List}
+use mathlib.Core.List.{List, [], _∷_}
 use Prim.Native.Nat.{ℕ, zero, suc, _+_, _*_, _-_, _/_, _^_, _<_, _≤_}
 use native.Mathlib.Nat.{pow-suc, pow-le-pow-right}
 use native.Mathlib.Numerals.{add-one}
@@ -51,37 +51,17 @@ pub be-end : (bytes : List ℕ) (i v all : ℕ) → fromBE v (drop i bytes) ≡ 
 unfolding fromBE
 be-end bytes i v all e h = rw (drop-of-length-le bytes h) at e
 
--- the lowest first: the bytes from i on are v, and the one before them is next
-module _ (bytes : List ℕ) (i v : ℕ) (small : v < 256 ^ (length bytes - i)) (p : 0 < i) (h : i ≤ length bytes) where
-  pub le-times-fits : length bytes ≤ 8 → Fits w64 (v * 256)
-  le-times-fits k = let m = below-seven (length bytes - i) v small (omega arith) in omega arith
-
-  pub le-sum-fits : (b : ℕ) → length bytes ≤ 8 → b < 256 → Fits w64 (v * 256 + b)
-  le-sum-fits b k l = let m = below-seven (length bytes - i) v small (omega arith) in omega arith
-
-  pub le-below : (b : ℕ) → b < 256 → v * 256 + b < 256 ^ (length bytes - (i - 1))
-  le-below b l =
-      let q : length bytes - (i - 1) ≡ suc (length bytes - i) = omega arith in
-      rw q (below-more (length bytes - i) v b small l)
-
-  pub le-next : (b : ℕ) → v ≡ fromLE (drop i bytes) → b ≡ getD bytes (i - 1) 0 → v * 256 + b ≡ fromLE (drop (i - 1) bytes)
-  unfolding fromLE
-  le-next b e q =
-      let n : i - 1 + 1 ≡ i = omega arith in
-      rw (left-at bytes (i - 1) (omega arith), n, ← q, ← e) (omega arith)
-
-pub le-end : (bytes : List ℕ) (i v : ℕ) → v ≡ fromLE (drop i bytes) → i ≤ 0 → v ≡ fromLE bytes
-le-end bytes i v e h =
-    let q : i ≡ 0 = omega arith in
-    rw q at e
-
-pub le-begin : (bytes : List ℕ) → 0 ≡ fromLE (drop (length bytes) bytes)
+-- the lowest first: four bytes
+pub le-four : (bytes : List ℕ) (a b c d : ℕ) → length bytes ≡ 4 → a ≡ getD bytes 0 0 → b ≡ getD bytes 1 0 → c ≡ getD bytes 2 0 → d ≡ getD bytes 3 0
+    → a + b * 256 + c * 65536 + d * 16777216 ≡ fromLE bytes
 unfolding fromLE
-le-begin bytes = rw (drop-of-length-le bytes {i = length bytes} (omega arith))
-
-pub le-small : (bytes : List ℕ) → 0 < 256 ^ (length bytes - length bytes)
-le-small bytes = let q : length bytes - length bytes ≡ 0 = omega arith in rw q (omega arith)
+le-four (a′ ∷ b′ ∷ c′ ∷ d′ ∷ []) a b c d l p q r s = omega arith
+le-four [] a b c d l p q r s = absurd (omega arith)
+le-four (a′ ∷ []) a b c d l p q r s = absurd (omega arith)
+le-four (a′ ∷ b′ ∷ []) a b c d l p q r s = absurd (omega arith)
+le-four (a′ ∷ b′ ∷ c′ ∷ []) a b c d l p q r s = absurd (omega arith)
+le-four (a′ ∷ b′ ∷ c′ ∷ d′ ∷ e ∷ more) a b c d l p q r s = absurd (omega arith)
 
 pub ruleset from-be·laws = (needs, be-times-fits, be-sum-fits, be-below, be-next, be-end)
 
-pub ruleset from-le·laws = (needs, le-begin, le-small, le-times-fits, le-sum-fits, le-below, le-next, le-end)
+pub ruleset from-le·laws = (needs, le-four)

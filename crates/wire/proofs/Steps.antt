@@ -1,14 +1,10 @@
 -- The laws that every loop over a slice uses, and those of tests.
-use mathlib.Core.Path.{_≡_, refl, _∙_, sym}
-use lib.Dec.{eqb}
-use mathlib.Core.Bool.{Bool, true, false}
-use mathlib.Core.Logic.{_⊎_, inl, inr}
-use Rattle.rules.specs.Lists.{pick}
+use mathlib.Core.Path.{_≡_}
 use mathlib.Core.List.{List, [], _∷_, _++_}
 use Prim.Native.Nat.{ℕ, suc, _+_, _<_}
 use native.Mathlib.Numerals.{add-one}
 use borrow.Author.Needs.{needs}
-use borrow.Author.Tests.{lt-ltb, le-ltb, le-leb, lt-leb, eq-eqb, ne-eqb, eqb-true, eqb-false}
+use borrow.Author.Tests.{lt-ltb, le-ltb, le-leb, lt-leb, eq-eqb, ne-eqb}
 use lib.ListN.{length, getD, take, drop, set}
 use lib.Seq.{drop-cons, take-suc-set, set-at, append-snoc}
 
@@ -23,22 +19,9 @@ left-at s i h = rw (add-one, drop-cons s i 0)
 pub take-put : {A : Type 0} (l : List A) (n : ℕ) (a : A) → n < length l → take (n + 1) (set l n a) ≡ take n l ++ a ∷ []
 take-put l n a h = rw (add-one, take-suc-set l n a h)
 
--- what a picked case says, for a proof that goes by a definition's own tests
-pub pick-cases : {A : Type 0} (t : Bool) (a b : A) {x : A} → pick t a b ≡ x → ((t ≡ true) × (a ≡ x)) ⊎ ((t ≡ false) × (b ≡ x))
-unfolding pick
-pick-cases true a b e = inl (refl, e)
-pick-cases false a b e = inr (refl, e)
-
 -- a store at the seam of what is written and what stays
 pub put-front : {A : Type 0} (x d : List A) (i : ℕ) (b : A) → length x ≡ i → i < length d → set (x ++ drop i d) i b ≡ (x ++ b ∷ []) ++ drop (i + 1) d
 put-front x d i b e h = rw (add-one, drop-cons d i b h, set-at x (getD d i b) (drop (suc i) d) b i e, append-snoc x b (drop (suc i) d))
-
--- a flag that a function returned, and the test that it is
-pub flag-eq : (r : Bool) (a b : ℕ) → r ≡ eqb a b → r ≡ true → a ≡ b
-flag-eq r a b e t = eqb-true a b (sym e ∙ t)
-
-pub flag-ne : (r : Bool) (a b : ℕ) → r ≡ eqb a b → r ≡ false → a ≡ b → ⊥
-flag-ne r a b e t = eqb-false a b (sym e ∙ t)
 
 -- an arm of a match on a number: the definition computes at the arm's number
 pub at-key : {A : Type 0} (f : ℕ → A) (b k : ℕ) (x : A) → b ≡ k → x ≡ f k → x ≡ f b

@@ -27,16 +27,10 @@ pub fn get_be(bytes: &[u8]) -> u64
     number
 }
 
-// The number that bytes are, the lowest first.
+// The number that four bytes are, the lowest first. A sum becomes one read of memory; a loop would become four.
 pub fn get_le(bytes: &[u8]) -> u64
-    requires { ⌜ length (now bytes) ≤ 8 ⌝ }
+    requires { ⌜ length (now bytes) ≡ 4 ⌝ }
     ensures { λ r. ⌜ r ≡ fromLE (now (bytes .entry)) ⌝ }
 {
-    let mut value: u64 = 0;
-    let mut i: usize = bytes.len();
-    while 0 < i {
-        i -= 1;
-        value = value * 256 + wide(bytes[i]);
-    }
-    value
+    wide(bytes[0]) + wide(bytes[1]) * 256 + wide(bytes[2]) * 65536 + wide(bytes[3]) * 16777216
 }

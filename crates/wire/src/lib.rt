@@ -1,2 +1,3 @@
-// Bytes read as numbers.
+// Bytes read: as numbers, and the label `*`.
 pub mod get;
+pub mod stars;

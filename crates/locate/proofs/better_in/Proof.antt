@@ -2,8 +2,8 @@ use Rattle.locate.proofs.Locating.{better·laws}
 use Rattle.locate.proofs.better_in.Statement.{statement}
 use Rattle.locate.proofs.better_in.Tie as tie
 
-record-in-requires : tie.Need-record-in-requires
-record-in-requires c κs = search better·laws
+known-in-requires : tie.Need-known-in-requires
+known-in-requires c κs = search better·laws
 
 enum-told : tie.Need-enum-told
 enum-told c = search better·laws
@@ -51,7 +51,7 @@ pub better-in-spec : {M : Type 1} → statement M
 better-in-spec =
     tie.close
     (tie.spec
-    record-in-requires
+    known-in-requires
     enum-told
     enum-told-2
     enum-known-found

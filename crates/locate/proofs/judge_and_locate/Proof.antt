@@ -1,24 +1,31 @@
-use mathlib.Core.List.{map}
-use Rattle.rules.specs.Lists.{lower}
-use Rattle.locate.specs.Skips.{Skips}
 use Prim.Native.Nat.{_-_, _≤_}
 use mathlib.Core.Path.{_≡_}
+use mathlib.Core.List.{map}
 use lib.ListN.{length, drop}
+use Rattle.rules.specs.Lists.{lower}
 use Rattle.rules.specs.Records.{loBytes}
 use Rattle.rules.specs.Reading.{decode}
+use Rattle.unrelated.specs.Passed.{Stopped}
 use Rattle.locate.specs.Locations.{locatedFrom, locatedIn}
-use Rattle.locate.proofs.Locating.{malformed, nothing-skipped, locate·laws}
+use Rattle.locate.specs.Skips.{Skips}
+use Rattle.locate.proofs.Locating.{locate·laws}
 use Rattle.locate.proofs.judge_and_locate.Statement.{statement}
 use Rattle.locate.proofs.judge_and_locate.Tie as tie
 
 abbrev Inv-loop : tie.InvT-loop
-Inv-loop stream client name n lo₀ least₀ from₀ at₀ lo least from at = (at ≤ length stream) × (locatedFrom client (record { lo = loBytes lo; atLeast = least }) (decode (drop at stream)) ≡ locatedIn client (decode stream)) × Skips (map lower name) stream from
+Inv-loop stream client name n lo₀ least₀ whole₀ at₀ from₀ lo least whole at from = (at ≤ length stream) × (locatedFrom client (record { lo = loBytes lo; atLeast = least }) (decode (drop at stream)) ≡ locatedIn client (decode stream)) × Skips (map lower name) stream from × Stopped (map lower name) stream at whole
 
 abbrev μ-loop : tie.MeasureT-loop
-μ-loop stream client name n lo₀ least₀ from₀ at₀ lo least from at = length stream - at
+μ-loop stream client name n lo₀ least₀ whole₀ at₀ from₀ lo least whole at from = length stream - at
+
+past-unrelated-requires : tie.Need-past-unrelated-requires Inv-loop μ-loop
+past-unrelated-requires c κs = search locate·laws
 
 loop-holds : tie.Need-loop-holds Inv-loop μ-loop
 loop-holds c = search locate·laws
+
+returns : tie.Need-returns Inv-loop μ-loop
+returns c = search locate·laws
 
 span-at-requires : tie.Need-span-at-requires Inv-loop μ-loop
 span-at-requires c κs = search locate·laws
@@ -44,17 +51,8 @@ part-better-in-end-2 c = search locate·laws
 better-in-requires : tie.Need-better-in-requires Inv-loop μ-loop
 better-in-requires c κs = search locate·laws
 
-enum-told : tie.Need-enum-told Inv-loop μ-loop
-enum-told c = search locate·laws
-
-returns : tie.Need-returns Inv-loop μ-loop
-returns c =
-    let b = c .before .before in
-    let s = b .before .before .before in
-    (malformed _ _ _ _ _ (s .before .before .loop .inv .1) _ (s .span-at .ensures) _ (b .better-in .ensures) (c .enum-told .given .1), nothing-skipped _ _)
-
-enum-known-best : tie.Need-enum-known-best Inv-loop μ-loop
-enum-known-best c = search locate·laws
+past-unrelated-requires-2 : tie.Need-past-unrelated-requires-2 Inv-loop μ-loop
+past-unrelated-requires-2 c κs = search locate·laws
 
 sub-behind : tie.Need-sub-behind Inv-loop μ-loop
 sub-behind c = search locate·laws
@@ -83,7 +81,9 @@ judge-and-locate-spec =
     (tie.spec
     Inv-loop
     μ-loop
+    past-unrelated-requires
     loop-holds
+    returns
     span-at-requires
     sub-better-in
     part-better-in-start
@@ -92,9 +92,7 @@ judge-and-locate-spec =
     part-better-in-start-2
     part-better-in-end-2
     better-in-requires
-    enum-told
-    returns
-    enum-known-best
+    past-unrelated-requires-2
     sub-behind
     part-behind-start
     part-behind-end

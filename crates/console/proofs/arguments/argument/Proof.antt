@@ -1,5 +1,4 @@
 use Rattle.files.proofs.Fronts.{front·laws}
-use borrow.Author.Needs.{needs}
 use Rattle.console.proofs.arguments.argument.Statement.{statement}
 use Rattle.console.proofs.arguments.argument.Tie as tie
 

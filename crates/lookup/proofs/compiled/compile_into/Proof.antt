@@ -1,5 +1,4 @@
 use Rattle.lookup.proofs.Records.{records·laws}
-use borrow.Author.Needs.{needs}
 use Rattle.lookup.proofs.compiled.compile_into.Statement.{statement}
 use Rattle.lookup.proofs.compiled.compile_into.Tie as tie
 

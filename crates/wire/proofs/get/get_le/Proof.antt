@@ -1,56 +1,69 @@
-use Prim.Native.Nat.{_-_, _^_, _<_, _≤_}
-use mathlib.Core.Path.{_≡_}
-use lib.ListN.{length, drop}
-use Rattle.rules.specs.Lists.{fromLE}
+use borrow.Author.Needs.{needs}
 use Rattle.wire.proofs.Numbers.{from-le·laws}
 use Rattle.wire.proofs.get.get_le.Statement.{statement}
 use Rattle.wire.proofs.get.get_le.Tie as tie
 
-abbrev Inv-loop : tie.InvT-loop
-Inv-loop bytes value₀ i₀ value i = (i ≤ length bytes) × (value < 256 ^ (length bytes - i)) × (value ≡ fromLE (drop i bytes))
+shared-slice-read-wide : tie.Need-shared-slice-read-wide
+shared-slice-read-wide c = search needs
 
-abbrev μ-loop : tie.MeasureT-loop
-μ-loop bytes value₀ i₀ value i = i
+wide-requires : tie.Need-wide-requires
+wide-requires c κs = search needs
 
-loop-holds : tie.Need-loop-holds Inv-loop μ-loop
-loop-holds c = search from-le·laws
+shared-slice-read-wide-2 : tie.Need-shared-slice-read-wide-2
+shared-slice-read-wide-2 c = search needs
 
-sub-i : tie.Need-sub-i Inv-loop μ-loop
-sub-i c = search from-le·laws
+wide-requires-2 : tie.Need-wide-requires-2
+wide-requires-2 c κs = search needs
 
-mul-value : tie.Need-mul-value Inv-loop μ-loop
-mul-value c = search from-le·laws
+mul-result : tie.Need-mul-result
+mul-result c = search needs
 
-shared-slice-read-wide : tie.Need-shared-slice-read-wide Inv-loop μ-loop
-shared-slice-read-wide c = search from-le·laws
+add-result : tie.Need-add-result
+add-result c = search needs
 
-wide-requires : tie.Need-wide-requires Inv-loop μ-loop
-wide-requires c κs = search from-le·laws
+shared-slice-read-wide-3 : tie.Need-shared-slice-read-wide-3
+shared-slice-read-wide-3 c = search needs
 
-add-value : tie.Need-add-value Inv-loop μ-loop
-add-value c = search from-le·laws
+wide-requires-3 : tie.Need-wide-requires-3
+wide-requires-3 c κs = search needs
 
-loop-less : tie.Need-loop-less Inv-loop μ-loop
-loop-less c = search from-le·laws
+mul-result-2 : tie.Need-mul-result-2
+mul-result-2 c = search needs
 
-loop-again : tie.Need-loop-again Inv-loop μ-loop
-loop-again c = search from-le·laws
+add-result-2 : tie.Need-add-result-2
+add-result-2 c = search needs
 
-returns : tie.Need-returns Inv-loop μ-loop
+shared-slice-read-wide-4 : tie.Need-shared-slice-read-wide-4
+shared-slice-read-wide-4 c = search needs
+
+wide-requires-4 : tie.Need-wide-requires-4
+wide-requires-4 c κs = search needs
+
+mul-result-3 : tie.Need-mul-result-3
+mul-result-3 c = search needs
+
+add-result-3 : tie.Need-add-result-3
+add-result-3 c = search needs
+
+returns : tie.Need-returns
 returns c = search from-le·laws
 
 pub get-le-spec : {M : Type 1} → statement M
 get-le-spec =
     tie.close
     (tie.spec
-    Inv-loop
-    μ-loop
-    loop-holds
-    sub-i
-    mul-value
     shared-slice-read-wide
     wide-requires
-    add-value
-    loop-less
-    loop-again
+    shared-slice-read-wide-2
+    wide-requires-2
+    mul-result
+    add-result
+    shared-slice-read-wide-3
+    wide-requires-3
+    mul-result-2
+    add-result-2
+    shared-slice-read-wide-4
+    wide-requires-4
+    mul-result-3
+    add-result-3
     returns)

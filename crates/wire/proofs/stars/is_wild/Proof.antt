@@ -1,6 +1,6 @@
-use Rattle.keys.proofs.Labels.{one-star, wild·laws}
-use Rattle.keys.proofs.is_wild.Statement.{statement}
-use Rattle.keys.proofs.is_wild.Tie as tie
+use Rattle.wire.proofs.WildNames.{one-star, wild·laws}
+use Rattle.wire.proofs.stars.is_wild.Statement.{statement}
+use Rattle.wire.proofs.stars.is_wild.Tie as tie
 
 returns : tie.Need-returns
 returns c = search wild·laws
