@@ -1,5 +1,5 @@
 -- What a record says of the key and the data that it was read from.
-use mathlib.Core.Path.{_≡_, refl, ap, _∙_}
+use mathlib.Core.Path.{_≡_, refl, ap, _∙_, sym}
 use mathlib.Core.Bool.{Bool, true, false, not, _&&_}
 use mathlib.Core.List.{List, [], _∷_}
 use mathlib.Core.Option.{some}
@@ -8,7 +8,8 @@ use native.Mathlib.Omega.{arith}
 use lib.ListN.{length, take, drop, length-append, length-map, length-drop}
 use lib.Dec.{T, eqb, leb}
 use Rattle.rules.specs.Lists.{pick, fromBE, beginsWith}
-use Rattle.rules.specs.Records.{Record, location, resource}
+use Rattle.rules.specs.declared.quantities.Shared.{Shared}
+use Rattle.rules.specs.Records.{Record, location, resource, loBytes}
 use Rattle.rules.specs.Bytes.{wild, unstarred, keyOf, rdataOf, fixedOf, dataOf, size}
 use Rattle.rules.specs.Reading.{ordinaryKey, wildcardKey, isLo, behindLo, withLo, byFlag, resourceIn, locationIn, recordIn}
 use Rattle.rules.proofs.Tests.{pick-ok, tests}
@@ -16,7 +17,8 @@ use Rattle.rules.proofs.Lists.{OnSome}
 use Rattle.rules.proofs.Decoding.{flag-length}
 use Rattle.rules.proofs.Numbers.{length-be}
 use Rattle.keys.specs.Keys.{goodKey}
-use Rattle.judge.specs.Seen.{ownerOf}
+use Rattle.judge.specs.declared.Seen.{Seen}
+use Rattle.judge.specs.Seen.{ownerOf, seenRecord}
 
 -- a resource record: whether it is a wildcard, and the lengths of its parts
 pub record FromKey (key rdata owner lo rd : List ℕ) : Type 0 where
@@ -94,11 +96,36 @@ shape (suc b ∷ key) rdata = resource-shape (suc b ∷ key) rdata
 pub shaped : (key rdata : List ℕ) (r : Record) → recordIn key rdata ≡ some r → Shape key rdata r
 shaped key rdata r e = rw e at (shape key rdata)
 
--- ---- the size of a record is that of its bytes
-
 pub is-false : (b : Bool) → T (not b) → b ≡ false
 is-false true t = absurd t
 is-false false t = refl
+
+-- ---- a resource record that was seen
+
+module _ (key rdata : List ℕ) (seen : Seen) (e : seenRecord key rdata seen ≡ recordIn key rdata)
+    (w : Bool) (type : ℕ) (shared : Shared) (fixed : ℕ) (q : seen ≡ Seen.Resource w type shared fixed) where
+  pub is-resource : recordIn key rdata ≡ some (resource (ownerOf w key) type (loBytes (shared .lo)) (shared .ttl .0) (shared .time .0) (drop fixed rdata))
+  unfolding seenRecord
+  is-resource = sym e ∙ ap (seenRecord key rdata) q
+
+  same-flag : (v w : Bool) → ownerOf w key ≡ ownerOf v key → v ≡ w
+  unfolding ownerOf pick
+  same-flag true true o = refl
+  same-flag true false o = absurd (omega (arith, ap length o))
+  same-flag false true o = absurd (omega (arith, ap length o))
+  same-flag false false o = refl
+
+  pub good-key : T (goodKey w key)
+  good-key =
+      let s = shaped key rdata (resource (ownerOf w key) type (loBytes (shared .lo)) (shared .ttl .0) (shared .time .0) (drop fixed rdata)) is-resource in
+      rw (same-flag (s .w) w (s .owned)) at (s .good)
+
+pub owner-wild : (w : Bool) (key : List ℕ) → T (goodKey w key) → wild (ownerOf w key) ≡ w
+unfolding ownerOf goodKey pick
+owner-wild true key g = unfold wild beginsWith in refl
+owner-wild false key g = is-false (wild key) (unfold ordinaryKey in search tests)
+
+-- ---- the size of a record is that of its bytes
 
 key-length : (w : Bool) (key : List ℕ) → T (goodKey w key) → length (unstarred (ownerOf w key)) ≡ length key
 unfolding unstarred ownerOf goodKey

@@ -1,11 +1,12 @@
 -- The pass that finds the largest rank.
-use mathlib.Core.Path.{_≡_, refl, ap, _∙_}
-use mathlib.Core.Bool.{Bool, true, false}
+use mathlib.Core.Path.{_≡_, refl, ap, _∙_, sym}
+use mathlib.Core.Bool.{Bool, true, false, not}
 use mathlib.Core.List.{List, [], _∷_, map}
 use mathlib.Core.Option.{Option, none, some}
 use Prim.Native.Nat.{ℕ, _-_, _<_, _≤_, max}
 use native.Mathlib.Omega.{arith}
 use borrow.Author.Needs.{needs}
+use borrow.Author.Tests.{not-true}
 use lib.ListN.{length, take, drop, drop-of-length-le}
 use Rattle.rules.specs.Lists.{pick, lower, isSome, valueOr}
 use Rattle.rules.specs.Names.{isWire}
@@ -17,7 +18,9 @@ use Rattle.rules.proofs.Decoding.{wire-lower}
 use Rattle.stream.specs.declared.Span.{Span}
 use Rattle.stream.specs.Spans.{part, IsSpan}
 use Rattle.stream.proofs.Heads.{decode-nil}
-use Rattle.ranks.specs.Ranks.{rankOf, largest, seenRank, rankIn}
+use Rattle.ranks.specs.Ranks.{rankOf, endsIn, largest, seenRank, rankIn}
+use Rattle.ranks.proofs.KeyRanks.{unrelated}
+use Rattle.ranks.proofs.Related.{not-end}
 use Rattle.level.proofs.Levels.{most-rank}
 
 -- ---- a place of whole records
@@ -73,6 +76,12 @@ module _ (name here : List ℕ) (moment : ℕ) (stream : List ℕ) (best at all 
     pub no-larger : found ≤ best → max best (largest (seenRank name here moment) (valueOr [] (decode (drop (span .next) stream)))) ≡ all
     no-larger h = omega (arith, is-found)
 
+  -- a record whose key isn't the end of the name
+  pub passed-over : (w : isSome (decode (drop at stream)) ≡ true) (span : Span) (i : IsSpan stream at span) (t : Bool)
+      → t ≡ endsIn name (take (span .middle - span .start) (drop (span .start) stream)) → not t ≡ true
+      → max best (largest (seenRank name here moment) (valueOr [] (decode (drop (span .next) stream)))) ≡ all
+  passed-over w span i t q n = no-larger w span i 0 (unrelated name here moment _ _ false (not-end name _ (sym q ∙ not-true t n)) refl) (omega arith)
+
   pub largest-found : length stream ≤ at → best ≡ all
   unfolding largest valueOr
   largest-found h =
@@ -98,4 +107,4 @@ most name here moment stream best at all w e h =
 pub none-yet : (n : ℕ) → max 0 n ≡ n
 none-yet n = omega arith
 
-pub ruleset best·laws = (needs, none-yet, record-whole, rest-whole, larger, no-larger, largest-found, most)
+pub ruleset best·laws = (needs, none-yet, record-whole, rest-whole, larger, no-larger, passed-over, largest-found, most)

@@ -9,12 +9,14 @@ ghost use Rattle.rules.specs.Names.{isWire};
 ghost use Rattle.rules.specs.Records.{loBytes};
 ghost use Rattle.rules.specs.Reading.{decode};
 ghost use Rattle.ranks.specs.Ranks.{seenRank, largest};
+use ranks::is_end;
 use ranks::rank_in;
 use rules::quantities::Lo;
 use rules::quantities::Moment;
 use stream::span_at;
 
-// The largest rank in a stream of whole records from a place on. None is above that of the name's own records.
+// The largest rank in a stream of whole records from a place on. None is above that of the name's own records. Most records are ruled out by
+// the end of the name alone, without a call.
 pub fn best_rank(stream: &[u8], name: &[u8], here: Lo, moment: Moment, from: usize) -> usize
     requires { ⌜ isWire (now name) ≡ true ⌝ }
     requires { ⌜ from ≤ length (now stream) ⌝ }
@@ -32,18 +34,22 @@ pub fn best_rank(stream: &[u8], name: &[u8], here: Lo, moment: Moment, from: usi
         let start = span.start;
         let middle = span.middle;
         let next = span.next;
-        let found = rank_in(
-            name,
-            here,
-            moment,
-            &stream[start..middle],
-            &stream[middle..next],
-        );
-        if best < found {
-            best = found;
+        if !is_end(name, &stream[start..middle]) {
             at = next;
         } else {
-            at = next;
+            let found = rank_in(
+                name,
+                here,
+                moment,
+                &stream[start..middle],
+                &stream[middle..next],
+            );
+            if best < found {
+                best = found;
+                at = next;
+            } else {
+                at = next;
+            }
         }
     }
     best

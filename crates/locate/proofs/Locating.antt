@@ -1,37 +1,39 @@
 -- The pass that judges a stream and finds the client's location.
 use mathlib.Core.Path.{_≡_, refl, ap, _∙_, sym}
 use mathlib.Core.Bool.{Bool, true, false, not, and-true, and-false}
-use mathlib.Core.List.{List, [], _∷_}
+use mathlib.Core.List.{List, [], _∷_, map}
 use mathlib.Core.Option.{Option, none, some}
 use Prim.Native.Nat.{ℕ, suc, _+_, _-_, _<_, _≤_}
 use native.Mathlib.Omega.{arith}
 use native.Mathlib.Numerals.{add-one}
 use borrow.Author.Needs.{needs}
-use borrow.Author.Tests.{eq-eqb, ne-eqb, le-leb, lt-leb, not-true, not-false}
-use lib.ListN.{length, take, drop, length-drop, drop-of-length-le}
-use lib.Dec.{eqb}
+use borrow.Author.Tests.{eq-eqb, ne-eqb, le-leb, lt-leb, not-true, not-false, leb-true, leb-false}
+use lib.ListN.{length, take, drop, length-drop, length-map, drop-of-length-le}
+use lib.Dec.{eqb, leb}
 use Rattle.rules.specs.declared.quantities.Lo.{Lo}
 use Rattle.rules.specs.declared.quantities.Shared.{Shared}
-use Rattle.rules.specs.Lists.{pick, isSome, beginsWith}
+use Rattle.rules.specs.Lists.{pick, lower, beginsWith}
 use Rattle.rules.specs.Records.{Record, location, resource, loBytes}
+use Rattle.rules.specs.Bytes.{wild}
 use Rattle.rules.specs.Questions.{matches, Best, better, bestOf, locationOf}
 use Rattle.rules.specs.Reading.{recordIn, ontoRecords, decode}
 use Rattle.wire.proofs.Parts.{tail-lent}
+use Rattle.wire.proofs.Compare.{other-length}
 use Rattle.judge.specs.declared.Seen.{Seen}
+use Rattle.judge.specs.Seen.{ownerOf, seenRecord}
+use Rattle.judge.proofs.Shapes.{shaped, is-resource, good-key, owner-wild}
 use Rattle.stream.specs.declared.Span.{Span}
-use Rattle.judge.specs.Seen.{seenRecord}
 use Rattle.stream.specs.Spans.{part, IsSpan}
 use Rattle.stream.proofs.Heads.{decode-nil}
 use Rattle.ranks.specs.Ranks.{endsIn}
-use Rattle.unrelated.specs.declared.Step.{Step}
-use Rattle.unrelated.specs.declared.Met.{Met}
-use Rattle.unrelated.specs.Passed.{stepOf, stepAt, Passed, none-yet, one-more, Stopped, ended, met, broken, Past}
 use Rattle.locate.specs.declared.Located.{Located}
+use Rattle.locate.specs.declared.Step.{Step}
+use Rattle.locate.specs.declared.Reached.{Reached}
 use Rattle.locate.specs.declared.Judged.{Judged}
-use Rattle.locate.specs.Locations.{betterIn, locatedIn, locatedFrom, bestSeen, judgedLo, fromIn}
-use Rattle.locate.specs.Skips.{Skips}
-use Rattle.locate.proofs.Skipping.{skips-none, first-skips, skips-more}
-use Rattle.judge.proofs.Shapes.{shaped}
+use Rattle.locate.specs.Locations.{locatedIn, locatedFrom, bestSeen, judgedLo, fromIn}
+use Rattle.locate.specs.Skips.{Skips, SkipsOn}
+use Rattle.locate.specs.Steps.{Stepped, malformed, stops, goes, mayAnswer, stepSeen, stepOf, IsReached}
+use Rattle.locate.proofs.Skipping.{skips-none, skips-same, skips-more}
 
 -- ---- a prefix
 
@@ -46,20 +48,33 @@ client-of-four client prefix t h q = rw (eq-eqb _ _ h, q, and-true)
 
 pub ruleset matches·laws = (needs, other-client, client-of-four)
 
+-- ---- a location
+
+module _ (client key : List ℕ) (located : Located) (found : Lo) (t : Bool) (m : t ≡ matches client (take (length key - 2) (drop 2 key))) where
+  is-match : matches client (drop 2 key) ≡ t
+  is-match = sym (m ∙ ap (matches client) (tail-lent key 2))
+
+  pub no-match : not t ≡ true → bestSeen located ≡ better client (bestSeen located) (location (drop 2 key) (loBytes found))
+  unfolding better pick
+  no-match n = rw (is-match, not-true t n)
+
+  pub too-short : not t ≡ false → length key - 2 < located .least → bestSeen located ≡ better client (bestSeen located) (location (drop 2 key) (loBytes found))
+  unfolding bestSeen better pick
+  too-short n h = rw (is-match, not-false t n, lt-leb (located .least) (length (drop 2 key)) (omega (arith, length-drop 2 key)))
+
+  pub longer : not t ≡ false → located .least ≤ length key - 2
+      → bestSeen (record { lo = found; least = length key - 2 + 1 }) ≡ better client (bestSeen located) (location (drop 2 key) (loBytes found))
+  unfolding bestSeen better pick
+  longer n h = rw (is-match, not-false t n, le-leb (located .least) (length (drop 2 key)) (omega (arith, length-drop 2 key)), length-drop 2 key, add-one)
+
+pub ruleset better·laws = (needs, no-match, too-short, longer)
+
 -- ---- one record
 
-module _ (client key rdata : List ℕ) (seen : Seen) (e : seenRecord key rdata seen ≡ recordIn key rdata) where
-  pub better-broken : (r : Located) (best : Best) → isSome (recordIn key rdata) ≡ true → seen ≡ Seen.Broken → some (bestSeen r) ≡ betterIn client best (recordIn key rdata)
-  unfolding seenRecord isSome
-  better-broken r best k q =
-      let z : _≡_ {A = Bool} false true = rw (← e, q) at k in
-      let y : _≡_ {A = ℕ} 0 1 = cc in
-      absurd (omega arith)
-
-  pub better-resource : (lo : Lo) (least : ℕ) (w : Bool) (type : ℕ) (shared : Shared) (fixed : ℕ) → seen ≡ Seen.Resource w type shared fixed
-      → some (bestSeen (record { lo = lo; least = least })) ≡ betterIn client (record { lo = loBytes lo; atLeast = least }) (recordIn key rdata)
-  unfolding seenRecord betterIn bestSeen better
-  better-resource lo least w type shared fixed q = rw (← e, q)
+module _ (client name : List ℕ) (located : Located) (key rdata : List ℕ) (seen : Seen) (e : seenRecord key rdata seen ≡ recordIn key rdata) where
+  pub step-broken : seen ≡ Seen.Broken → stepSeen Step.Broken ≡ stepOf client name (bestSeen located) key (recordIn key rdata)
+  unfolding seenRecord stepSeen stepOf
+  step-broken q = rw (← e, q)
 
   module _ (found : Lo) (q : seen ≡ Seen.Location found) where
     is-location : recordIn key rdata ≡ some (location (drop 2 key) (loBytes found))
@@ -69,35 +84,147 @@ module _ (client key rdata : List ℕ) (seen : Seen) (e : seenRecord key rdata s
     pub prefix-there : 2 ≤ length key
     prefix-there = omega (arith, ap length (shaped key rdata _ is-location .0))
 
-    module _ (lo : Lo) (least : ℕ) (t : Bool) (m : t ≡ matches client (take (length key - 2) (drop 2 key))) where
-      is-match : matches client (drop 2 key) ≡ t
-      is-match = sym (m ∙ ap (matches client) (tail-lent key 2))
+    pub step-location : (r : Located) → bestSeen r ≡ better client (bestSeen located) (location (drop 2 key) (loBytes found))
+        → stepSeen (Step.Goes r) ≡ stepOf client name (bestSeen located) key (recordIn key rdata)
+    unfolding stepSeen stepOf
+    step-location r b = rw (is-location, b)
 
-      pub no-match : not t ≡ true → some (bestSeen (record { lo = lo; least = least })) ≡ betterIn client (record { lo = loBytes lo; atLeast = least }) (recordIn key rdata)
-      unfolding betterIn bestSeen better pick
-      no-match n = rw (is-location, is-match, not-true t n)
+  module _ (w : Bool) (type : ℕ) (shared : Shared) (fixed : ℕ) (q : seen ≡ Seen.Resource w type shared fixed) (t : Bool) (k : t ≡ mayAnswer name key w) where
+    owned : recordIn key rdata ≡ some (resource (ownerOf w key) type (loBytes (shared .lo)) (shared .ttl .0) (shared .time .0) (drop fixed rdata))
+    owned = is-resource key rdata seen e w type shared fixed q
 
-      pub too-short : not t ≡ false → length key - 2 < least → some (bestSeen (record { lo = lo; least = least })) ≡ betterIn client (record { lo = loBytes lo; atLeast = least }) (recordIn key rdata)
-      unfolding betterIn bestSeen better pick
-      too-short n h = rw (is-location, is-match, not-false t n, lt-leb least (length (drop 2 key)) (omega (arith, length-drop 2 key)))
+    marked : wild (ownerOf w key) ≡ w
+    marked = owner-wild w key (good-key key rdata seen e w type shared fixed q)
 
-      pub longer : not t ≡ false → least ≤ length key - 2
-          → some (bestSeen (record { lo = found; least = length key - 2 + 1 })) ≡ betterIn client (record { lo = loBytes lo; atLeast = least }) (recordIn key rdata)
-      unfolding betterIn bestSeen better pick
-      longer n h = rw (is-location, is-match, not-false t n, le-leb least (length (drop 2 key)) (omega (arith, length-drop 2 key)), length-drop 2 key, add-one)
+    pub step-stops : t ≡ true → stepSeen Step.Stops ≡ stepOf client name (bestSeen located) key (recordIn key rdata)
+    unfolding stepSeen stepOf pick
+    step-stops y = rw (owned, marked, ← k, y)
 
-pub ruleset better·laws = (needs, better-broken, better-resource, prefix-there, no-match, too-short, longer)
+    pub step-goes : t ≡ false → stepSeen (Step.Goes located) ≡ stepOf client name (bestSeen located) key (recordIn key rdata)
+    unfolding stepSeen stepOf pick
+    step-goes y = rw (owned, marked, ← k, y)
+
+module _ (name key : List ℕ) (w t : Bool) (k : t ≡ endsIn (map lower name) key) where
+  pub no-end : not t ≡ true → false ≡ mayAnswer (map lower name) key w
+  unfolding mayAnswer
+  no-end n = rw (← k, not-true t n)
+
+  pub wildcard-answers : not t ≡ false → w ≡ true → true ≡ mayAnswer (map lower name) key w
+  unfolding mayAnswer
+  wildcard-answers n y = rw (← k, not-false t n, y)
+
+  pub own-answers : not t ≡ false → w ≡ false → eqb (length name) (length key) ≡ mayAnswer (map lower name) key w
+  unfolding mayAnswer
+  own-answers n y = rw (← k, not-false t n, y, length-map name lower)
+
+pub ruleset answer·laws = (needs, no-end, wildcard-answers, own-answers)
+
+pub ruleset step·laws = (needs, step-broken, prefix-there, step-location, step-stops, step-goes)
 
 -- ---- the pass
 
-onto-some : (client : List ℕ) (best next : Best) (o : Option Record) (ds : Option (List Record)) → some next ≡ betterIn client best o
-    → locatedFrom client best (ontoRecords o ds) ≡ locatedFrom client next ds
-unfolding betterIn locatedFrom ontoRecords bestOf
-onto-some client best next none ds e = let z : _≡_ {A = ℕ} 0 1 = cc in absurd (omega arith)
-onto-some client best next (some r) none e = refl
-onto-some client best next (some r) (some rs) e =
-    let q : better client best r ≡ next = cc in
-    ap (λ (b : Best). some (bestOf client b rs .lo)) q
+module _ (client name : List ℕ) (best : Best) (key : List ℕ) where
+  step-none : (o : Option Record) → stepOf client name best key o ≡ malformed → o ≡ none
+  unfolding stepOf
+  step-none none e = refl
+  step-none (some (location prefix lo)) e = let z : _≡_ {A = ℕ} 0 1 = cc in absurd (omega arith)
+  step-none (some (resource owner type lo ttl time rdata)) e = go (mayAnswer name key (wild owner)) e
+    where
+      go : (t : Bool) → pick t stops (goes best) ≡ malformed → some (resource owner type lo ttl time rdata) ≡ none
+      go true q = unfold pick in let z : _≡_ {A = ℕ} 0 1 = cc in absurd (omega arith)
+      go false q = unfold pick in let z : _≡_ {A = ℕ} 0 1 = cc in absurd (omega arith)
+
+  step-better : (next : Best) (o : Option Record) (ds : Option (List Record)) → stepOf client name best key o ≡ goes next
+      → locatedFrom client best (ontoRecords o ds) ≡ locatedFrom client next ds
+  unfolding stepOf locatedFrom ontoRecords bestOf better
+  step-better next none ds e = let z : _≡_ {A = ℕ} 0 1 = cc in absurd (omega arith)
+  step-better next (some (location prefix lo)) none e = refl
+  step-better next (some (location prefix lo)) (some rs) e =
+      let q : better client best (location prefix lo) ≡ next = cc in
+      ap (λ (b : Best). some (bestOf client b rs .lo)) q
+  step-better next (some (resource owner type lo ttl time rdata)) ds e = go (mayAnswer name key (wild owner)) ds e
+    where
+      go : (t : Bool) (ds : Option (List Record)) → pick t stops (goes best) ≡ goes next → locatedFrom client best (ontoRecords (some (resource owner type lo ttl time rdata)) ds) ≡ locatedFrom client next ds
+      go true ds q = unfold pick in let z : _≡_ {A = ℕ} 0 1 = cc in absurd (omega arith)
+      go false none q = unfold locatedFrom ontoRecords in refl
+      go false (some rs) q = unfold pick locatedFrom ontoRecords bestOf better in
+          let b : best ≡ next = cc in
+          ap (λ (b : Best). some (bestOf client b rs .lo)) b
+
+-- where the pass stops there is a name to look for: it ends in the record's key, and no record's is empty
+not-stopped : (client : List ℕ) (best : Best) (k : ℕ) (key : List ℕ) (o : Option Record) → stepOf client [] best (k ∷ key) o ≡ stops → ⊥
+unfolding stepOf
+not-stopped client best k key none e = let z : _≡_ {A = ℕ} 0 1 = cc in omega arith
+not-stopped client best k key (some (location prefix lo)) e = let z : _≡_ {A = ℕ} 0 1 = cc in omega arith
+not-stopped client best k key (some (resource owner type lo ttl time rdata)) e = by (mayAnswer [] (k ∷ key) (wild owner)) (unfold mayAnswer in rw other) e
+  where
+    other : endsIn [] (k ∷ key) ≡ false
+    other = unfold endsIn in sym (other-length (k ∷ key) (drop (0 - length (k ∷ key)) []) (λ e. omega (arith, length-drop {A = ℕ} (0 - length (k ∷ key)) [])))
+
+    by : (t : Bool) → t ≡ false → pick t stops (goes best) ≡ stops → ⊥
+    by true q p = let z : _≡_ {A = ℕ} 0 1 = cc in omega arith
+    by false q p = unfold pick in let z : _≡_ {A = ℕ} 0 1 = cc in omega arith
+
+step-ends : (client name : List ℕ) (best : Best) (key rdata : List ℕ) → stepOf client name best key (recordIn key rdata) ≡ stops → 0 < length name
+unfolding stepOf recordIn
+step-ends client (b ∷ name) best key rdata e = omega arith
+step-ends client [] best [] rdata e = let z : _≡_ {A = ℕ} 0 1 = cc in absurd (omega arith)
+step-ends client [] best (k ∷ key) rdata e = absurd (not-stopped client best k key (recordIn (k ∷ key) rdata) e)
+
+module _ (client name stream : List ℕ) (best : Best) (from : ℕ) (located : Located) (at : ℕ)
+    (e : locatedFrom client best (decode (drop from stream)) ≡ locatedFrom client (bestSeen located) (decode (drop at stream)))
+    (s : SkipsOn name stream from at) (l : at ≤ length stream) where
+  module _ (span : Span) (i : IsSpan stream at span) (r : Step)
+      (q : stepSeen r ≡ stepOf client name (bestSeen located) (take (span .middle - span .start) (drop (span .start) stream))
+      (recordIn (take (span .middle - span .start) (drop (span .start) stream)) (take (span .next - span .middle) (drop (span .middle) stream)))) where
+    is-step : (x : Stepped) → stepSeen r ≡ x → stepOf client name (bestSeen located) (take (span .middle - span .start) (drop (span .start) stream))
+        (recordIn (take (span .middle - span .start) (drop (span .start) stream)) (take (span .next - span .middle) (drop (span .middle) stream))) ≡ x
+    is-step x p = sym q ∙ p
+
+    module _ (next : Located) (g : r ≡ Step.Goes next) where
+      went : stepSeen r ≡ goes (bestSeen next)
+      unfolding stepSeen
+      went = ap stepSeen g
+
+      pub goes-on : locatedFrom client best (decode (drop from stream)) ≡ locatedFrom client (bestSeen next) (decode (drop (span .next) stream))
+      unfolding part
+      goes-on = (rw (i .says) at e) ∙ step-better client name (bestSeen located) _ (bestSeen next) _ (decode (drop (span .next) stream)) (is-step _ went)
+
+      pub skips-on : SkipsOn name stream from (span .next)
+      skips-on = skips-more name stream client (bestSeen located) (bestSeen next) from at s span i (is-step _ went)
+
+    pub breaks : r ≡ Step.Broken → IsReached client name stream best from (record { located = located; at = at; whole = false })
+    unfolding part ontoRecords stepSeen
+    breaks b = record {
+      located = e;
+      skips = s;
+      inside = l;
+      broken = λ w. i .says ∙ rw (step-none client name (bestSeen located) _ _ (is-step malformed (ap stepSeen b)));
+      early = λ w. let z : _≡_ {A = ℕ} 0 1 = cc in absurd (omega arith);
+    }
+
+    pub stops-here : r ≡ Step.Stops → IsReached client name stream best from (record { located = located; at = at; whole = true })
+    unfolding stepSeen
+    stops-here b = record {
+      located = e;
+      skips = s;
+      inside = l;
+      broken = λ w. let z : _≡_ {A = ℕ} 0 1 = cc in absurd (omega arith);
+      early = λ w h. step-ends client name (bestSeen located) _ _ (is-step stops (ap stepSeen b));
+    }
+
+  pub all-passed : length stream ≤ at → IsReached client name stream best from (record { located = located; at = at; whole = true })
+  all-passed h = record {
+    located = e;
+    skips = s;
+    inside = l;
+    broken = λ w. let z : _≡_ {A = ℕ} 0 1 = cc in absurd (omega arith);
+    early = λ w k. absurd (omega arith);
+  }
+
+pub ruleset from·laws = (needs, skips-same, goes-on, skips-on, breaks, stops-here, all-passed)
+
+-- ---- both parts
 
 from-start : (client stream : List ℕ) → locatedFrom client (record { lo = loBytes Lo.Every; atLeast = 0 }) (decode (drop 0 stream)) ≡ locatedIn client (decode stream)
 from-start client stream = go (decode stream)
@@ -106,85 +233,45 @@ from-start client stream = go (decode stream)
     go none = unfold locatedFrom locatedIn in refl
     go (some rs) = unfold locatedFrom locatedIn locationOf loBytes in refl
 
--- a record that is passed gives no location
-passes-better : (client : List ℕ) (best : Best) (name key : List ℕ) (o : Option Record) → stepOf name key o ≡ Step.Passes → some best ≡ betterIn client best o
-unfolding stepOf betterIn better
-passes-better client best name key none e = let z : _≡_ {A = ℕ} 0 1 = cc in absurd (omega arith)
-passes-better client best name key (some (location prefix lo)) e = let z : _≡_ {A = ℕ} 0 1 = cc in absurd (omega arith)
-passes-better client best name key (some (resource owner type lo ttl time rdata)) e = refl
+none-located : (client : List ℕ) (best : Best) (o : Option (List Record)) → o ≡ none → locatedFrom client best o ≡ none
+unfolding locatedFrom
+none-located client best o e = rw e
 
-passed-located : (client : List ℕ) (best : Best) (name stream : List ℕ) (from : ℕ) {r : ℕ} → Passed name stream from r
-    → locatedFrom client best (decode (drop from stream)) ≡ locatedFrom client best (decode (drop r stream))
-unfolding stepAt
-passed-located client best name stream from none-yet = refl
-passed-located client best name stream from (one-more at span p i e) =
-    passed-located client best name stream from p
-    ∙ ap (locatedFrom client best) (i .says)
-    ∙ onto-some client best best _ (decode (drop (span .next) stream)) (passes-better client best name _ _ e)
-
-not-broken : (name key : List ℕ) (r : Record) → stepOf name key (some r) ≡ Step.Broken → ⊥
-unfolding stepOf
-not-broken name key (location prefix lo) q = let z : _≡_ {A = ℕ} 0 1 = cc in omega arith
-not-broken name key (resource owner type lo ttl time rdata) q = go (endsIn name key) q
-  where
-    go : (t : Bool) → pick t Step.Stops Step.Passes ≡ Step.Broken → ⊥
-    go true e = unfold pick in let z : _≡_ {A = ℕ} 0 1 = cc in omega arith
-    go false e = unfold pick in let z : _≡_ {A = ℕ} 0 1 = cc in omega arith
-
--- where no whole record stands nothing is located
-broken-located : (client : List ℕ) (best : Best) (name stream : List ℕ) (at : ℕ) → Stopped name stream at false → locatedFrom client best (decode (drop at stream)) ≡ none
-unfolding stepAt
-broken-located client best name stream at (broken span i e) =
-    ap (locatedFrom client best) (i .says) ∙ go _ _ e
-  where
-    go : (key : List ℕ) (o : Option Record) → stepOf name key o ≡ Step.Broken → locatedFrom client best (ontoRecords o (decode (drop (span .next) stream))) ≡ none
-    go key none q = unfold ontoRecords locatedFrom in refl
-    go key (some r) q = absurd (not-broken name key r q)
-
-stops-some : (name key : List ℕ) (o : Option Record) → stepOf name key o ≡ Step.Stops → isSome o ≡ true
-unfolding stepOf isSome
-stops-some name key none q = let z : _≡_ {A = ℕ} 0 1 = cc in absurd (omega arith)
-stops-some name key (some r) q = refl
-
-module _ (client name stream : List ℕ) where
-  pub first-located : (m : Met) → Past name stream 0 m → locatedFrom client (record { lo = loBytes Lo.Every; atLeast = 0 }) (decode (drop (m .at) stream)) ≡ locatedIn client (decode stream)
-  first-located m p = sym (passed-located client _ name stream 0 (p .passed)) ∙ from-start client stream
-
-  module _ (lo : Lo) (least at : ℕ)
-      (e : locatedFrom client (record { lo = loBytes lo; atLeast = least }) (decode (drop at stream)) ≡ locatedIn client (decode stream)) where
-    pub malformed : (whole : Bool) → Stopped name stream at whole → not whole ≡ true → judgedLo Judged.Broken ≡ locatedIn client (decode stream)
-    unfolding judgedLo
-    malformed whole s n = sym (broken-located client _ name stream at (rw (not-true whole n) at s)) ∙ e
-
-    pub goes-on : (span : Span) → IsSpan stream at span → (best : Located)
-        → some (bestSeen best) ≡ betterIn client (record { lo = loBytes lo; atLeast = least })
-        (recordIn (take (span .middle - span .start) (drop (span .start) stream)) (take (span .next - span .middle) (drop (span .middle) stream)))
-        → (m : Met) → Past name stream (span .next) m
-        → locatedFrom client (record { lo = loBytes (best .lo); atLeast = best .least }) (decode (drop (m .at) stream)) ≡ locatedIn client (decode stream)
-    unfolding part bestSeen
-    goes-on span i best q m p =
-        sym (passed-located client _ name stream (span .next) (p .passed))
-        ∙ sym (onto-some client _ _ _ (decode (drop (span .next) stream)) q)
-        ∙ (rw (i .says) at e)
-
-    pub all-judged : (from : ℕ) → length stream ≤ at → judgedLo (Judged.Whole lo from) ≡ locatedIn client (decode stream)
-    unfolding locatedFrom bestOf judgedLo
-    all-judged from h = rw (drop-of-length-le stream h, decode-nil) at e
+module _ (client name stream : List ℕ) (first : Reached)
+    (f : IsReached client name stream (bestSeen (record { lo = Lo.Every; least = 0 })) 0 first) where
+  first-located : locatedIn client (decode stream) ≡ locatedFrom client (bestSeen (first .located)) (decode (drop (first .at) stream))
+  unfolding bestSeen
+  first-located = sym (from-start client stream) ∙ f .located
 
   pub nothing-skipped : Skips name stream (fromIn Judged.Broken)
   unfolding fromIn
   nothing-skipped = skips-none name stream
 
-  pub skipped-there : (lo : Lo) (from : ℕ) → Skips name stream from → Skips name stream (fromIn (Judged.Whole lo from))
+  pub skipped-there : (lo : Lo) → Skips name stream (fromIn (Judged.Whole lo (first .at)))
   unfolding fromIn
-  skipped-there lo from s = s
+  skipped-there lo = f .skips .on (skips-none name stream)
 
-  -- the record that stands where the pass stopped is whole
-  pub record-there : (at : ℕ) (whole : Bool) → Stopped name stream at whole → at < length stream → not whole ≡ false → (span : Span) → IsSpan stream at span
-      → isSome (recordIn (take (span .middle - span .start) (drop (span .start) stream)) (take (span .next - span .middle) (drop (span .middle) stream))) ≡ true
-  unfolding part stepAt
-  record-there at whole (ended h) l n span i = absurd (omega arith)
-  record-there at whole (met span′ i′ e) l n span i = ap isSome (sym (i .here) ∙ i′ .here) ∙ stops-some name _ _ e
-  record-there at whole (broken span′ i′ e) l n span i = let z : _≡_ {A = ℕ} 0 1 = cc in absurd (omega arith)
+  pub first-broken : not (first .whole) ≡ true → judgedLo Judged.Broken ≡ locatedIn client (decode stream)
+  unfolding judgedLo
+  first-broken n = sym (first-located ∙ none-located client _ _ (f .broken (not-true (first .whole) n)))
 
-pub ruleset locate·laws = (needs, first-located, malformed, goes-on, all-judged, first-skips, skips-more, nothing-skipped, skipped-there, record-there)
+  module _ (rest : Reached) (g : IsReached client [] stream (bestSeen (first .located)) (first .at) rest) where
+    both-located : locatedIn client (decode stream) ≡ locatedFrom client (bestSeen (rest .located)) (decode (drop (rest .at) stream))
+    both-located = first-located ∙ g .located
+
+    pub rest-broken : not (rest .whole) ≡ true → judgedLo Judged.Broken ≡ locatedIn client (decode stream)
+    unfolding judgedLo
+    rest-broken n = sym (both-located ∙ none-located client _ _ (g .broken (not-true (rest .whole) n)))
+
+    all-read : rest .whole ≡ true → length stream ≤ rest .at
+    all-read w = go (leb (length stream) (rest .at)) refl
+      where
+        go : (t : Bool) → leb (length stream) (rest .at) ≡ t → length stream ≤ rest .at
+        go true q = leb-true (length stream) (rest .at) q
+        go false q = absurd (omega (arith, g .early w (leb-false (length stream) (rest .at) q)))
+
+    pub all-located : not (rest .whole) ≡ false → judgedLo (Judged.Whole (rest .located .lo) (first .at)) ≡ locatedIn client (decode stream)
+    unfolding judgedLo locatedFrom bestOf bestSeen
+    all-located n = sym (both-located ∙ rw (drop-of-length-le stream (all-read (not-false (rest .whole) n)), decode-nil))
+
+pub ruleset locate·laws = (needs, nothing-skipped, skipped-there, first-broken, rest-broken, all-located)

@@ -3,13 +3,9 @@ use Prim.Native.Nat.{ℕ}
 use mathlib.Core.List.{List}
 use mathlib.Core.Option.{Option, none, some}
 use Rattle.rules.specs.Records.{Record, loBytes}
-use Rattle.rules.specs.Questions.{Best, better, bestOf, locationOf}
+use Rattle.rules.specs.Questions.{Best, bestOf, locationOf}
 use Rattle.locate.specs.declared.Located.{Located}
 use Rattle.locate.specs.declared.Judged.{Judged}
-
-unfoldable pub betterIn : List ℕ → Best → Option Record → Option Best
-betterIn client best none = none
-betterIn client best (some r) = some (better client best r)
 
 unfoldable pub locatedIn : List ℕ → Option (List Record) → Option (List ℕ)
 locatedIn client none = none

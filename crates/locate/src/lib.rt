@@ -1,25 +1,39 @@
 // The pass that judges a stream and finds the client's location.
 ghost use mathlib.Core.Path.{_≡_};
-ghost use mathlib.Core.Bool.{true};
 ghost use mathlib.Core.List.{map};
-ghost use mathlib.Core.Option.{some};
-ghost use Rattle.rules.specs.Lists.{lower, isSome, beginsWith};
-ghost use Rattle.rules.specs.Records.{loBytes};
-ghost use Rattle.rules.specs.Questions.{matches};
+ghost use Prim.Native.Nat.{_≤_};
+ghost use lib.ListN.{length, drop};
+ghost use Rattle.rules.specs.Lists.{lower, beginsWith};
+ghost use Rattle.rules.specs.Records.{location, loBytes};
+ghost use Rattle.rules.specs.Questions.{matches, better};
 ghost use Rattle.rules.specs.Reading.{recordIn, decode};
-ghost use Rattle.locate.specs.Locations.{bestSeen, betterIn, judgedLo, locatedIn, fromIn};
-ghost use Rattle.locate.specs.Skips.{Skips, skipped};
+ghost use Rattle.locate.specs.Locations.{bestSeen, judgedLo, locatedIn, fromIn};
+ghost use Rattle.locate.specs.Skips.{Skips};
+ghost use Rattle.locate.specs.Steps.{mayAnswer, stepSeen, stepOf, IsReached};
 use judge::Seen;
-use judge::known::known_in;
+use judge::record_in;
 use ranks::is_end;
 use rules::quantities::Lo;
 use stream::span_at;
-use unrelated::past_unrelated;
 
 // The location of the longest prefix so far, and how long a better prefix is at least.
 struct Located {
     lo: Lo,
     least: usize,
+}
+
+// What a record is to the pass: malformed, one that may answer, or one that is passed, with the better location.
+enum Step {
+    Broken,
+    Stops,
+    Goes(Located),
+}
+
+// The location up to a place, and whether a whole record, or the end, stands there.
+struct Reached {
+    located: Located,
+    at: usize,
+    whole: bool,
 }
 
 // Whether a stream is whole records, and then the client's location, and a place before which no record can answer.
@@ -55,82 +69,126 @@ fn matches(client: &[u8], prefix: &[u8]) -> bool
     begins_with(prefix, client)
 }
 
-// The better of the location so far and that of one record.
-fn better_in(client: &[u8], lo: Lo, least: usize, key: &[u8], rdata: &[u8]) -> Located
-    requires { ⌜ isSome (recordIn (now key) (now rdata)) ≡ true ⌝ }
-    ensures { λ r. ⌜ some (bestSeen r) ≡ betterIn (now (client .entry)) (record { lo = loBytes lo; atLeast = least }) (recordIn (now (key .entry)) (now (rdata .entry))) ⌝ }
+// The better of the location so far and another, by its key, which has the prefix behind two bytes.
+fn better_in(client: &[u8], located: Located, found: Lo, key: &[u8]) -> Located
+    requires { ⌜ 2 ≤ length (now key) ⌝ }
+    ensures { λ r. ⌜ bestSeen r ≡ better (now (client .entry)) (bestSeen located) (location (drop 2 (now (key .entry))) (loBytes found)) ⌝ }
 {
-    match known_in(key, rdata) {
-        Seen::Broken => Located { lo, least },
+    if !matches(client, &key[2..]) {
+        return located;
+    }
+    let long = key.len() - 2;
+    if long < located.least {
+        return located;
+    }
+    Located {
+        lo: found,
+        least: long + 1,
+    }
+}
+
+// Whether a record may answer for a name: one of the name itself, or a wildcard's whose key the name ends in.
+fn may_answer(name: &[u8], key: &[u8], wild: bool) -> bool
+    ensures { λ r. ⌜ r ≡ mayAnswer (map lower (now (name .entry))) (now (key .entry)) wild ⌝ }
+{
+    if !is_end(name, key) {
+        return false;
+    }
+    if wild {
+        return true;
+    }
+    name.len() == key.len()
+}
+
+// What a record is to the pass.
+fn step_in(client: &[u8], name: &[u8], located: Located, key: &[u8], rdata: &[u8]) -> Step
+    ensures { λ r. ⌜ stepSeen r ≡ stepOf (now (client .entry)) (map lower (now (name .entry))) (bestSeen located) (now (key .entry)) (recordIn (now (key .entry)) (now (rdata .entry))) ⌝ }
+{
+    match record_in(key, rdata) {
+        Seen::Broken => Step::Broken,
+        Seen::Location(found) => Step::Goes(better_in(client, located, found, key)),
         Seen::Resource {
-            wild: _,
+            wild,
             rtype: _,
             shared: _,
             fixed: _,
-        } => Located { lo, least },
-        Seen::Location(found) => {
-            if !matches(client, &key[2..]) {
-                return Located { lo, least };
+        } => {
+            if may_answer(name, key, wild) {
+                return Step::Stops;
             }
-            let long = key.len() - 2;
-            if long < least {
-                return Located { lo, least };
-            }
-            Located {
-                lo: found,
-                least: long + 1,
-            }
+            Step::Goes(located)
         }
     }
 }
 
-// A place before which no record can answer, once a record, and all behind it up to the next place, are known not to, or the record is.
-fn behind(name: &[u8], key: &[u8], from: usize, at: usize, next: usize) -> usize
-    ensures { λ r. ⌜ r ≡ skipped (map lower (now (name .entry))) (now (key .entry)) from at next ⌝ }
-{
-    if from != at {
-        return from;
-    }
-    if is_end(name, key) {
-        return from;
-    }
-    next
-}
-
-// Every record is read, also behind the last location: a stream is judged whole before anything of it is answered.
-pub fn judge_and_locate(stream: &[u8], client: &[u8], name: &[u8]) -> Judged
-    ensures { λ r. ⌜ judgedLo r ≡ locatedIn (now (client .entry)) (decode (now (stream .entry))) ⌝ }
-    ensures { λ r. ⌜ Skips (map lower (now (name .entry))) (now (stream .entry)) (fromIn r) ⌝ }
+// Judges records from a place on, up to the first that may answer for a name.
+fn locate_from(stream: &[u8], client: &[u8], name: &[u8], known: Located, from: usize) -> Reached
+    requires { ⌜ from ≤ length (now stream) ⌝ }
+    ensures { λ r. ⌜ IsReached (now (client .entry)) (map lower (now (name .entry))) (now (stream .entry)) (bestSeen known) from r ⌝ }
 {
     let n = stream.len();
-    let mut lo = Lo::Every;
-    let mut least: usize = 0;
-    let first = past_unrelated(stream, name, 0);
-    let mut whole = first.whole;
-    let mut at = first.at;
-    let mut from = at;
+    let mut located = known;
+    let mut at = from;
     while at < n {
-        if !whole {
-            return Judged::Broken;
-        }
         let span = span_at(stream, at);
         let start = span.start;
         let middle = span.middle;
         let next = span.next;
-        let best = better_in(
+        match step_in(
             client,
-            lo,
-            least,
+            name,
+            located,
             &stream[start..middle],
             &stream[middle..next],
-        );
-        lo = best.lo;
-        least = best.least;
-        let met = past_unrelated(stream, name, next);
-        let stop = met.at;
-        whole = met.whole;
-        from = behind(name, &stream[start..middle], from, at, stop);
-        at = stop;
+        ) {
+            Step::Broken => {
+                return Reached {
+                    located,
+                    at,
+                    whole: false,
+                };
+            }
+            Step::Stops => {
+                return Reached {
+                    located,
+                    at,
+                    whole: true,
+                };
+            }
+            Step::Goes(better) => {
+                located = better;
+                at = next;
+            }
+        }
     }
+    Reached {
+        located,
+        at,
+        whole: true,
+    }
+}
+
+// Every record is read, also behind the last location: a stream is judged whole before anything of it is answered. From the first record that
+// may answer on there is no name to look for, and nothing to stop at.
+pub fn judge_and_locate(stream: &[u8], client: &[u8], name: &[u8]) -> Judged
+    ensures { λ r. ⌜ judgedLo r ≡ locatedIn (now (client .entry)) (decode (now (stream .entry))) ⌝ }
+    ensures { λ r. ⌜ Skips (map lower (now (name .entry))) (now (stream .entry)) (fromIn r) ⌝ }
+{
+    let nothing = Located {
+        lo: Lo::Every,
+        least: 0,
+    };
+    let first = locate_from(stream, client, name, nothing, 0);
+    let located = first.located;
+    let from = first.at;
+    if !first.whole {
+        return Judged::Broken;
+    }
+    let rest = locate_from(stream, client, &name[..0], located, from);
+    if !rest.whole {
+        return Judged::Broken;
+    }
+    let best = rest.located;
+    let lo = best.lo;
     Judged::Whole(lo, from)
 }

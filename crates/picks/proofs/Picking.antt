@@ -1,12 +1,12 @@
 -- The pass that picks the record of the answer.
 use mathlib.Core.Path.{_≡_, refl, ap, _∙_, sym}
-use mathlib.Core.Bool.{Bool, true, false, _||_, and-false}
+use mathlib.Core.Bool.{Bool, true, false, not, _||_, and-false}
 use mathlib.Core.List.{List, [], _∷_}
 use mathlib.Core.Option.{Option, none, some}
 use Prim.Native.Nat.{ℕ, zero, suc, _+_, _-_, _<_, _≤_}
 use native.Mathlib.Omega.{arith}
 use borrow.Author.Needs.{needs}
-use borrow.Author.Tests.{eq-eqb, ne-eqb}
+use borrow.Author.Tests.{eq-eqb, ne-eqb, not-true}
 use lib.ListN.{length, take, drop, length-drop, drop-of-length-le}
 use lib.Seq.{length-take-le}
 use lib.Dec.{eqb}
@@ -25,7 +25,9 @@ use Rattle.judge.specs.Seen.{ownerOf, seenRecord, fixedIn}
 use Rattle.stream.specs.Spans.{IsSpan}
 use Rattle.stream.proofs.Heads.{decode-nil}
 use Rattle.view.specs.Views.{sharing}
-use Rattle.ranks.specs.Ranks.{seenRank, rankIn}
+use Rattle.ranks.specs.Ranks.{endsIn, seenRank, rankIn}
+use Rattle.ranks.proofs.KeyRanks.{unrelated}
+use Rattle.ranks.proofs.Related.{not-end}
 use Rattle.picks.specs.Picks.{wanted, wantedIn, replyIn, pickedFrom}
 use Rattle.judge.proofs.Shapes.{shaped, size-is}
 use Rattle.level.proofs.Bests.{Whole, whole-at, record-whole, rest-whole}
@@ -177,8 +179,15 @@ module _ (type : ℕ) (name here : List ℕ) (moment best : ℕ) (stream : List 
         ∙ sym (pass-by type name here moment best at left (whole .rec) _ (is-wanted ∙ y))
         ∙ left-over
 
+  -- a record whose key isn't the end of the name is of no level
+  pub passed-over : 0 < best → (w : isSome (decode (drop at stream)) ≡ true) (span : Span) (i : IsSpan stream at span) (t : Bool)
+      → t ≡ endsIn name (take (span .middle - span .start) (drop (span .start) stream)) → not t ≡ true
+      → pickedFrom type name here moment best (span .next) left (valueOr [] (decode (drop (span .next) stream))) ≡ all
+  passed-over b w span i t q n =
+      not-picked w span i false (other-rank type name here moment best _ _ 0 (unrelated name here moment _ _ false (not-end name _ (sym q ∙ not-true t n)) refl) (λ z. omega arith)) refl
+
   pub none-left : length stream ≤ at → Reply.NoMore ≡ all
   unfolding pickedFrom placedFrom keep valueOr replyOf
   none-left h = rw (drop-of-length-le stream h, decode-nil) at e
 
-pub ruleset pick·laws = (needs, record-whole, rest-whole, data-inside, picked-here, picked-later, not-picked, none-left)
+pub ruleset pick·laws = (needs, record-whole, rest-whole, data-inside, picked-here, picked-later, not-picked, passed-over, none-left)

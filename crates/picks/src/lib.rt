@@ -2,7 +2,7 @@
 ghost use mathlib.Core.Path.{_≡_};
 ghost use mathlib.Core.Bool.{true};
 ghost use mathlib.Core.List.{[], map};
-ghost use Prim.Native.Nat.{_≤_};
+ghost use Prim.Native.Nat.{_<_, _≤_};
 ghost use lib.ListN.{length, drop};
 ghost use Rattle.rules.specs.Lists.{lower, isSome, valueOr};
 ghost use Rattle.rules.specs.Records.{loBytes};
@@ -12,6 +12,7 @@ ghost use Rattle.view.specs.Views.{sharing};
 ghost use Rattle.picks.specs.Picks.{wantedIn, replyIn, pickedFrom};
 use judge::Seen;
 use judge::known::known_in;
+use ranks::is_end;
 use ranks::rank_in;
 use rules::quantities::Lo;
 use rules::quantities::Moment;
@@ -117,6 +118,7 @@ pub fn pick_record(
     ordinal: u64,
     from: usize,
 ) -> Reply
+    requires { ⌜ 0 < best ⌝ }
     requires { ⌜ from ≤ length (now stream) ⌝ }
     requires { ⌜ isSome (decode (drop from (now stream))) ≡ true ⌝ }
     ensures { λ r. ⌜ r ≡ pickedFrom qtype (map lower (now (name .entry))) (loBytes here) (moment .0) best from ordinal (valueOr [] (decode (drop from (now (stream .entry))))) ⌝ }
@@ -129,22 +131,26 @@ pub fn pick_record(
         let start = span.start;
         let middle = span.middle;
         let next = span.next;
-        if is_wanted(
-            name,
-            qtype,
-            here,
-            moment,
-            best,
-            &stream[start..middle],
-            &stream[middle..next],
-        ) {
-            if left == 0 {
-                return reply_in(moment, next, &stream[start..middle], &stream[middle..next]);
-            }
-            left -= 1;
+        if !is_end(name, &stream[start..middle]) {
             at = next;
         } else {
-            at = next;
+            if is_wanted(
+                name,
+                qtype,
+                here,
+                moment,
+                best,
+                &stream[start..middle],
+                &stream[middle..next],
+            ) {
+                if left == 0 {
+                    return reply_in(moment, next, &stream[start..middle], &stream[middle..next]);
+                }
+                left -= 1;
+                at = next;
+            } else {
+                at = next;
+            }
         }
     }
     Reply::NoMore

@@ -24,7 +24,8 @@ use Rattle.keys.specs.Keys.{goodKey}
 use Rattle.judge.specs.Seen.{ownerOf, seenRecord}
 use Rattle.view.specs.Views.{sharing}
 use Rattle.ranks.specs.Ranks.{rankAmong, rankOf, among, keyRank, seenRank, rankIn}
-use Rattle.judge.proofs.Shapes.{Shape, shape, shaped, is-false}
+use Rattle.wire.proofs.Compare.{other-length}
+use Rattle.judge.proofs.Shapes.{FromKey, Shape, shape, shaped, is-false, is-resource, good-key, owner-wild}
 
 -- ---- keys
 
@@ -125,6 +126,24 @@ module _ (name here : List ℕ) (moment : ℕ) (key rdata : List ℕ) where
       go (some (resource owner type lo ttl time rd)) s =
           rw (by-key type ttl time lo rd name key owner (s .w) (s .owned) (s .good), no-rank (sym q ∙ not-true t n) (s .w)) (sym (pick-same (visible here moment (resource owner type lo ttl time rd)) 0))
 
+  -- an ordinary record of another name
+  pub other-name : (owner lo rd : List ℕ) (type ttl time : ℕ) → recordIn key rdata ≡ some (resource owner type lo ttl time rd) → wild owner ≡ false → (length name ≡ length key → ⊥)
+      → 0 ≡ rankIn name here moment (recordIn key rdata)
+  unfolding rankIn seenRank
+  other-name owner lo rd type ttl time e o n = rw e (go (s .w) (s .owned) (s .good))
+    where
+      s : FromKey key rdata owner lo rd
+      s = shaped key rdata (resource owner type lo ttl time rd) e
+
+      go : (w : Bool) → owner ≡ ownerOf w key → T (goodKey w key) → 0 ≡ pick (visible here moment (resource owner type lo ttl time rd)) (rankOf name (resource owner type lo ttl time rd)) 0
+      go true p g =
+          let z : _≡_ {A = Bool} true false = sym (owner-wild true key g) ∙ ap wild (sym p) ∙ o in
+          let y : _≡_ {A = ℕ} 0 1 = cc in
+          absurd (omega arith)
+      go false p g =
+          rw (by-key type ttl time lo rd name key owner false p g, ← (plain-not name key false false refl (other-length key name (λ z. n (sym z))) refl))
+          (sym (pick-same (visible here moment (resource owner type lo ttl time rd)) 0))
+
   module _ (seen : Seen) (e : seenRecord key rdata seen ≡ recordIn key rdata) where
     pub no-record : seen ≡ Seen.Broken → 0 ≡ rankIn name here moment (recordIn key rdata)
     unfolding rankIn seenRecord
@@ -135,26 +154,13 @@ module _ (name here : List ℕ) (moment : ℕ) (key rdata : List ℕ) where
     a-location lo q = rw (← e, q)
 
     module _ (w : Bool) (type : ℕ) (shared : Shared) (fixed : ℕ) (q : seen ≡ Seen.Resource w type shared fixed) where
-      is-resource : recordIn key rdata ≡ some (resource (ownerOf w key) type (loBytes (shared .lo)) (shared .ttl .0) (shared .time .0) (drop fixed rdata))
-      unfolding seenRecord
-      is-resource = sym e ∙ ap (seenRecord key rdata) q
-
-      same-flag : (v w : Bool) → ownerOf w key ≡ ownerOf v key → v ≡ w
-      unfolding ownerOf pick
-      same-flag true true o = refl
-      same-flag true false o = absurd (omega (arith, ap length o))
-      same-flag false true o = absurd (omega (arith, ap length o))
-      same-flag false false o = refl
-
-      good-key : T (goodKey w key)
-      good-key =
-          let s = shaped key rdata (resource (ownerOf w key) type (loBytes (shared .lo)) (shared .ttl .0) (shared .time .0) (drop fixed rdata)) is-resource in
-          rw (same-flag (s .w) w (s .owned)) at (s .good)
-
       ranked : rankIn name here moment (recordIn key rdata) ≡ pick (visible here moment (sharing shared)) (keyRank name key w) 0
       unfolding rankIn seenRank visible sharing
       ranked =
-          rw (is-resource, by-key type (shared .ttl .0) (shared .time .0) (loBytes (shared .lo)) (drop fixed rdata) name key (ownerOf w key) w refl good-key)
+          rw (
+            is-resource key rdata seen e w type shared fixed q,
+            by-key type (shared .ttl .0) (shared .time .0) (loBytes (shared .lo)) (drop fixed rdata) name key (ownerOf w key) w refl (good-key key rdata seen e w type shared fixed q),
+          )
 
       module _ (t : Bool) (v : t ≡ visible here moment (sharing shared)) where
         pub unseen : not t ≡ true → 0 ≡ rankIn name here moment (recordIn key rdata)

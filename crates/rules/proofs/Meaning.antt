@@ -19,7 +19,7 @@ use Rattle.rules.specs.Bytes.{keyOf, rdataOf, fixedOf, dataOf, encode, s
 use Rattle.rules.specs.Answers.{isDone, isGood, lineRecords, sourceRecords, answer, compileAnswer, compileOutput}
 use Rattle.rules.specs.Questions.{Placed, placedFrom, Question, wildcardOf, ancestors, firstFull, level, answers}
 use Rattle.rules.specs.Reading.{momentEnd, isClient, replyOf, replyFrom, replyDecoded, askReply}
-use Rattle.rules.specs.Demands.{Accepted, needed, CompilingRefusesExactly, compiledBytes, Gives, CompilingKeepsTheMeaning}
+use Rattle.rules.specs.Demands.{Accepted, bytesNeeded, CompilingRefusesExactly, compiledBytes, Gives, CompilingKeepsTheMeaning}
 use Rattle.rules.proofs.Tests.{pick-no, and-l, and-r}
 use Rattle.rules.proofs.Lists.{OnSome, All, nil, cons, all-append, all-keep, all-at, all-map}
 use Rattle.rules.proofs.Records.{Ok, line-ok}
@@ -110,10 +110,10 @@ asked q n {rs} ok name moment client =
     either (inr e) = rw e tt
 
 -- exactly the records' bytes are written and counted
-pub written : (source : List ℕ) (serial : ℕ) (out : List ℕ) → Accepted source → needed serial source ≤ length out → compiledBytes source serial out ≡ bytesOf (sourceRecords serial source)
-unfolding CompilingRefusesExactly compiledBytes compileOutput needed answer isDone pick
+pub written : (source : List ℕ) (serial : ℕ) (out : List ℕ) → Accepted source → bytesNeeded serial source ≤ length out → compiledBytes source serial out ≡ bytesOf (sourceRecords serial source)
+unfolding CompilingRefusesExactly compiledBytes compileOutput bytesNeeded answer isDone pick
 written source serial out a room =
-    let e : compileAnswer source serial (length out) ≡ answer Fault.Done 0 0 (needed serial source) = refuses-exactly source serial (length out) .done a room in
+    let e : compileAnswer source serial (length out) ≡ answer Fault.Done 0 0 (bytesNeeded serial source) = refuses-exactly source serial (length out) .done a room in
     rw e (take-at (bytesOf (sourceRecords serial source)) _ _ (length-bytes (sourceRecords serial source)))
 
 gives : (stream : List ℕ) (q : Question) (o : Option Placed) → OnSome (Held stream) o → Gives stream (q .moment) o (replyOf (q .moment) o)

@@ -20,7 +20,7 @@ use Rattle.rules.specs.Names.{NameRead, named, misnamed}
 use Rattle.rules.specs.Fields.{unless, nameFault, needed, optional, typeFault, faultOf}
 use Rattle.rules.specs.Bytes.{sizeOfAll}
 use Rattle.rules.specs.Answers.{isDone, noFault, thenFault, fieldsFault, joinedFault, wholeLine, kindFault, strippedFault, longestLine, lineFault, isGood, longestSource, sourceRecords, answer, judgeLines, judgeSource, ifRoom, compileAnswer}
-use Rattle.rules.specs.Demands.{needed as neededFor, Accepted, lineAt, FirstBad, RefusesExactly, CompilingRefusesExactly}
+use Rattle.rules.specs.Demands.{bytesNeeded, Accepted, lineAt, FirstBad, RefusesExactly, CompilingRefusesExactly}
 use Rattle.rules.proofs.Tests.{pick-ok, pick-no, and-l, and-r}
 
 -- ---- a line's fault is none of the source's
@@ -202,7 +202,7 @@ module _ (source : List ℕ) (serial room : ℕ) where
   no-bad k g b = T-not (isGood (getD (linesOf source) k [])) b (all-good (linesOf source) k g)
 
   exactly : {a : Answer} → Outcome source serial room a → RefusesExactly source serial room a
-  unfolding Accepted FirstBad lineAt neededFor answer
+  unfolding Accepted FirstBad lineAt bytesNeeded answer
   exactly (long h) = record {
     tooLong = λ g. refl;
     badLine = λ k s b. absurd (omega arith);

@@ -23,8 +23,8 @@ unfoldable pub Accepted : List ℕ → Type 0
 Accepted source = (length source ≤ longestSource) × T (all isGood (linesOf source))
 
 -- the bytes that a source needs: "the sum of record sizes"
-unfoldable pub needed : ℕ → List ℕ → ℕ
-needed serial source = sizeOfAll (sourceRecords serial source)
+unfoldable pub bytesNeeded : ℕ → List ℕ → ℕ
+bytesNeeded serial source = sizeOfAll (sourceRecords serial source)
 
 -- line k of a source, from 0; a line that isn't there is empty, and good
 unfoldable pub lineAt : List ℕ → ℕ → List ℕ
@@ -42,12 +42,12 @@ pub record RefusesExactly (source : List ℕ) (serial room : ℕ) (a : Answer) :
   pub badLine :
       (k : ℕ) → length source ≤ longestSource → FirstBad source k
       → a ≡ answer (lineFault (lineAt source k) .fault) (suc k) (lineFault (lineAt source k) .field) 0
-  pub noRoom : Accepted source → room < needed serial source → a ≡ answer Fault.NoRoom 0 0 (needed serial source)
-  pub done : Accepted source → needed serial source ≤ room → a ≡ answer Fault.Done 0 0 (needed serial source)
+  pub noRoom : Accepted source → room < bytesNeeded serial source → a ≡ answer Fault.NoRoom 0 0 (bytesNeeded serial source)
+  pub done : Accepted source → bytesNeeded serial source ≤ room → a ≡ answer Fault.Done 0 0 (bytesNeeded serial source)
   pub onlyTooLong : a .fault ≡ Fault.SourceTooLong → longestSource < length source
   pub onlyBadLine : (k : ℕ) → a .line ≡ suc k → (length source ≤ longestSource) × FirstBad source k
-  pub onlyNoRoom : a .fault ≡ Fault.NoRoom → Accepted source × (room < needed serial source)
-  pub onlyDone : a .fault ≡ Fault.Done → Accepted source × (needed serial source ≤ room)
+  pub onlyNoRoom : a .fault ≡ Fault.NoRoom → Accepted source × (room < bytesNeeded serial source)
+  pub onlyDone : a .fault ≡ Fault.Done → Accepted source × (bytesNeeded serial source ≤ room)
 
 unfoldable pub CompilingRefusesExactly : Type 0
 CompilingRefusesExactly = (source : List ℕ) (serial room : ℕ) → RefusesExactly source serial room (compileAnswer source serial room)
@@ -75,7 +75,7 @@ unfoldable pub CompilingKeepsTheMeaning : Type 0
 CompilingKeepsTheMeaning =
     (source : List ℕ) (serial : ℕ) (out : List ℕ) (q : Question) (ordinal : ℕ)
     → Accepted source
-    → needed serial source ≤ length out
+    → bytesNeeded serial source ≤ length out
     → T (isWire (q .name))
     → q .moment < momentEnd
     → (length (q .client) ≡ 4) ⊎ (length (q .client) ≡ 16)

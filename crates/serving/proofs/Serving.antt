@@ -14,7 +14,7 @@ use Rattle.rules.specs.Lists.{pick}
 use Rattle.rules.specs.Answers.{faultNumber, isDone, answer}
 use Rattle.rules.specs.Questions.{Question}
 use Rattle.rules.specs.Reading.{askReply}
-use Rattle.rules.specs.Demands.{Accepted, needed, CompilingRefusesExactly, compiledBytes}
+use Rattle.rules.specs.Demands.{Accepted, bytesNeeded, CompilingRefusesExactly, compiledBytes}
 use Rattle.rules.proofs.Refusals.{refuses-exactly}
 use Rattle.refusals.proofs.Numbers.{zero-done, other-refused}
 use Rattle.wire.proofs.Parts.{front-count}
@@ -43,11 +43,11 @@ done-is Fault.NoRoom e = absurd (true≢false (sym e))
 
 module _ (source : List ℕ) (serial : ℕ) (out out′ : List ℕ) (a : Answer) (n : ℕ) (c : IsCompiled source serial out out′ a) (f : n ≡ faultNumber (a .fault)) where
   -- compiling is done exactly where the source is accepted and there is room
-  accepted-done : Accepted source → needed serial source ≤ length out → isDone (a .fault) ≡ true
+  accepted-done : Accepted source → bytesNeeded serial source ≤ length out → isDone (a .fault) ≡ true
   unfolding answer isDone
   accepted-done ok room = ap (λ (x : Answer). isDone (x .fault)) (c .answer ∙ is-done source serial out ok room)
 
-  done-accepted : n ≡ 0 → Accepted source × (needed serial source ≤ length out)
+  done-accepted : n ≡ 0 → Accepted source × (bytesNeeded serial source ≤ length out)
   unfolding CompilingRefusesExactly
   done-accepted d = refuses-exactly source serial (length out) .onlyDone (ap (λ (x : Answer). x .fault) (sym (c .answer)) ∙ done-is (a .fault) (zero-done (a .fault) n f d))
 
@@ -63,10 +63,10 @@ module _ (source : List ℕ) (serial : ℕ) (out out′ : List ℕ) (a : Answer)
       }
 
   module _ (t : n ≡ 0) where
-    is-accepted : Accepted source × (needed serial source ≤ length out)
+    is-accepted : Accepted source × (bytesNeeded serial source ≤ length out)
     is-accepted = done-accepted t
 
-    count-is : a .bytes ≡ needed serial source
+    count-is : a .bytes ≡ bytesNeeded serial source
     unfolding answer
     count-is = ap (λ (x : Answer). x .bytes) (c .answer ∙ is-done source serial out (is-accepted .0) (is-accepted .1))
 

@@ -13,6 +13,7 @@ use lib.Seq.{drop-drop}
 use Rattle.rules.specs.Lists.{pick, fromLE}
 use Rattle.rules.specs.Records.{Record}
 use Rattle.rules.specs.Reading.{recordIn, ontoRecords, decodeOne, decodeFrom, decode}
+use Rattle.wire.proofs.Fuel.{enough}
 use Rattle.stream.specs.Heads.{keyLength, dataLength, sizeAt, fits, headOf, keyAt, dataAt, recordAt}
 use Rattle.stream.specs.declared.Head.the-variants.{Whole, Broken}
 
@@ -120,23 +121,14 @@ front : (count b : ℕ) (bs : List ℕ) → decodeFrom (suc count) (b ∷ bs) �
 unfolding decodeFrom
 front count b bs = unfold keyLength dataLength in one (b ∷ bs) (decodeFrom count)
 
-shorter : (b : ℕ) (bs : List ℕ) (count : ℕ) → length (b ∷ bs) ≤ suc count → length (drop (sizeAt (b ∷ bs)) (b ∷ bs)) ≤ count
+shorter : (b : ℕ) (bs : List ℕ) → length (drop (sizeAt (b ∷ bs)) (b ∷ bs)) ≤ length bs
 unfolding sizeAt
-shorter b bs count h = omega (arith, length-drop (8 + keyLength (b ∷ bs) + dataLength (b ∷ bs)) (b ∷ bs))
+shorter b bs = omega (arith, length-drop (8 + keyLength (b ∷ bs) + dataLength (b ∷ bs)) (b ∷ bs))
 
--- any count that is large enough will do
-enough : (f g : ℕ) (bytes : List ℕ) → length bytes ≤ f → length bytes ≤ g → decodeFrom f bytes ≡ decodeFrom g bytes
+none-left : (count : ℕ) → decodeFrom count [] ≡ some []
 unfolding decodeFrom
-enough zero zero bytes h k = refl
-enough zero (suc g) [] h k = refl
-enough zero (suc g) (b ∷ bs) h k = absurd (omega arith)
-enough (suc f) zero [] h k = refl
-enough (suc f) zero (b ∷ bs) h k = absurd (omega arith)
-enough (suc f) (suc g) [] h k = refl
-enough (suc f) (suc g) (b ∷ bs) h k =
-    front f b bs
-    ∙ ap (ontoRecords (recordAt (b ∷ bs))) (enough f g (drop (sizeAt (b ∷ bs)) (b ∷ bs)) (shorter b bs f h) (shorter b bs g k))
-    ∙ sym (front g b bs)
+none-left zero = refl
+none-left (suc count) = refl
 
 pub decode-nil : decode [] ≡ some []
 unfolding decode decodeFrom
@@ -146,6 +138,7 @@ pub decode-more : (bytes : List ℕ) → 0 < length bytes → decode bytes ≡ o
 unfolding decode
 decode-more [] h = absurd (omega arith)
 decode-more (b ∷ bs) h =
+    let rest = drop (sizeAt (b ∷ bs)) (b ∷ bs) in
     front (length bs) b bs
     ∙ ap (ontoRecords (recordAt (b ∷ bs)))
-    (enough (length bs) (length (drop (sizeAt (b ∷ bs)) (b ∷ bs))) (drop (sizeAt (b ∷ bs)) (b ∷ bs)) (shorter b bs (length bs) (omega arith)) (omega arith))
+    (enough decodeFrom (λ xs. ontoRecords (recordAt xs)) (λ xs. drop (sizeAt xs) xs) (some []) none-left front shorter (length bs) (length rest) rest (shorter b bs) (omega arith))

@@ -12,22 +12,26 @@ use lib.Seq.{take-all, length-take-le, drop-drop}
 use Rattle.rules.specs.Lists.{pick}
 use Rattle.rules.specs.Records.{chunksFrom, chunks}
 use Rattle.buffer.specs.Put.{IsPut}
+use Rattle.wire.proofs.Fuel.{enough}
 use Rattle.wire.proofs.Parts.{lentAt, backAt, tail-lent}
 use Rattle.buffer.proofs.Puts.{Run, run-none, run-front, run-more, run-length, run-whole}
 use Rattle.txt.specs.Chunks.{chunkSize}
 
--- any count of turns that suffices gives the same
-same-fuel : (f g : ℕ) (t : List ℕ) → length t ≤ f → length t ≤ g → chunksFrom f t ≡ chunksFrom g t
-unfolding chunksFrom pick
-same-fuel zero zero t p q = refl
-same-fuel zero (suc g) [] p q = refl
-same-fuel zero (suc g) (b ∷ t) p q = absurd (omega arith)
-same-fuel (suc f) zero [] p q = refl
-same-fuel (suc f) zero (b ∷ t) p q = absurd (omega arith)
-same-fuel (suc f) (suc g) [] p q = refl
-same-fuel (suc f) (suc g) (b ∷ t) p q =
-    let l = length-drop 127 (b ∷ t) in
-    rw (same-fuel f g (drop 127 (b ∷ t)) (omega arith) (omega arith))
+none-left : (fuel : ℕ) → chunksFrom fuel [] ≡ []
+unfolding chunksFrom
+none-left zero = refl
+none-left (suc fuel) = refl
+
+-- the first chunk before the others
+onto : List ℕ → List ℕ → List ℕ
+onto t rest = pick (leb (length t) 127) (length t ∷ t) (127 ∷ take 127 t ++ rest)
+
+front : (fuel b : ℕ) (t : List ℕ) → chunksFrom (suc fuel) (b ∷ t) ≡ onto (b ∷ t) (chunksFrom fuel (drop 127 (b ∷ t)))
+unfolding chunksFrom onto
+front fuel b t = refl
+
+shorter : (b : ℕ) (t : List ℕ) → length (drop 127 (b ∷ t)) ≤ length t
+shorter b t = omega (arith, length-drop 127 (b ∷ t))
 
 pub chunks-none : chunks [] ≡ []
 unfolding chunks chunksFrom
@@ -43,8 +47,8 @@ pub chunks-more : (t : List ℕ) → 127 < length t → chunks t ≡ (127 ∷ ta
 unfolding chunks chunksFrom pick
 chunks-more [] h = absurd (omega arith)
 chunks-more (b ∷ t) h =
-    let l = length-drop 127 (b ∷ t) in
-    rw (lt-leb (length (b ∷ t)) 127 h, same-fuel (length t) (length (drop 127 (b ∷ t))) (drop 127 (b ∷ t)) (omega arith) (omega arith))
+    let rest = drop 127 (b ∷ t) in
+    rw (lt-leb (length (b ∷ t)) 127 h, enough chunksFrom onto (drop 127) [] none-left front shorter (length t) (length rest) rest (shorter b t) (omega arith))
 
 pub whole-chunk : (n : ℕ) → 127 < n → 127 ≡ chunkSize n
 unfolding chunkSize pick

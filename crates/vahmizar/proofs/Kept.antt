@@ -11,7 +11,7 @@ use Rattle.rules.specs.Lists.{pick}
 use Rattle.rules.specs.Answers.{faultNumber, answer, compileAnswer, compileOutput}
 use Rattle.rules.specs.Questions.{Question}
 use Rattle.rules.specs.Reading.{askReply}
-use Rattle.rules.specs.Demands.{Accepted, needed, CompilingRefusesExactly, compiledBytes, CompilingKeepsTheMeaning}
+use Rattle.rules.specs.Demands.{Accepted, bytesNeeded, CompilingRefusesExactly, compiledBytes, CompilingKeepsTheMeaning}
 use Rattle.rules.proofs.Refusals.{refuses-exactly}
 use Rattle.rules.proofs.Meaning.{keeps-the-meaning}
 use Rattle.vahmizar.specs.Promises.{TheCallRefusesExactly, Askable, Tells, TheCallsKeepTheMeaning}
@@ -30,13 +30,13 @@ the-call-refuses-exactly source serial out s out′ s′ r c h = record {
   exactly = refuses-exactly source serial (length out);
 }
 
-module _ (source : List ℕ) (serial : ℕ) (out : List ℕ) (accepted : Accepted source) (room : needed serial source ≤ length out) where
-  pub is-done : compileAnswer source serial (length out) ≡ answer Fault.Done 0 0 (needed serial source)
+module _ (source : List ℕ) (serial : ℕ) (out : List ℕ) (accepted : Accepted source) (room : bytesNeeded serial source ≤ length out) where
+  pub is-done : compileAnswer source serial (length out) ≡ answer Fault.Done 0 0 (bytesNeeded serial source)
   unfolding CompilingRefusesExactly
   is-done = refuses-exactly source serial (length out) .done accepted room
 
   -- the bytes that were written: as many as are needed
-  bytes-are : take (needed serial source) (compileOutput source serial out) ≡ compiledBytes source serial out
+  bytes-are : take (bytesNeeded serial source) (compileOutput source serial out) ≡ compiledBytes source serial out
   unfolding compiledBytes answer
   bytes-are = rw is-done
 
@@ -46,9 +46,9 @@ module _ (source : List ℕ) (serial : ℕ) (out : List ℕ) (accepted : Accepte
 
   -- the same of a buffer that holds what compiling leaves
   pub tells-in : (out′ : List ℕ) → out′ ≡ compileOutput source serial out → (q : Question) (ordinal : ℕ) → Askable q
-      → Tells source serial (take (needed serial source) out′) q ordinal (askReply (take (needed serial source) out′) q ordinal)
+      → Tells source serial (take (bytesNeeded serial source) out′) q ordinal (askReply (take (bytesNeeded serial source) out′) q ordinal)
   tells-in out′ e q ordinal a =
-      let same : compiledBytes source serial out ≡ take (needed serial source) out′ = sym bytes-are ∙ ap (take (needed serial source)) (sym e) in
+      let same : compiledBytes source serial out ≡ take (bytesNeeded serial source) out′ = sym bytes-are ∙ ap (take (bytesNeeded serial source)) (sym e) in
       subst (λ (b : List ℕ). Tells source serial b q ordinal (askReply b q ordinal)) same (tells q ordinal a)
 
 pub the-calls-keep-the-meaning : TheCallsKeepTheMeaning
@@ -56,7 +56,7 @@ unfolding TheCallsKeepTheMeaning answer
 the-calls-keep-the-meaning source serial out s out′ s′ r q ordinal t t′ m c h accepted room a k askable = (
   past 32 s _ _ _ h (c .number) ∙ ap (λ (x : Answer). faultNumber (x .fault)) (is-done source serial out accepted room),
   record {
-    reply = askReply (take (needed serial source) out′) q ordinal;
+    reply = askReply (take (bytesNeeded serial source) out′) q ordinal;
     first = past 40 t _ _ _ k (a .number);
     rest = past 40 t _ _ _ k (a .numbers);
     tells = tells-in source serial out accepted room out′ (past 32 s _ _ _ h (c .output)) q ordinal askable;

@@ -12,7 +12,7 @@ use Rattle.rules.specs.Names.{isWire}
 use Rattle.rules.specs.Answers.{faultNumber, numbersOf, isDone, sourceRecords, compileAnswer, compileOutput}
 use Rattle.rules.specs.Questions.{Question, placedFrom, answers}
 use Rattle.rules.specs.Reading.{momentEnd, replyNumber, replyNumbers, askReply}
-use Rattle.rules.specs.Demands.{Accepted, needed, RefusesExactly, compiledBytes, Gives}
+use Rattle.rules.specs.Demands.{Accepted, bytesNeeded, RefusesExactly, compiledBytes, Gives}
 use Rattle.vahmizar.specs.declared.outcomes.Outcome.{Outcome}
 
 -- an answer's numbers in its lent slice: "8 bytes each, little-endian, in the order named above"
@@ -76,11 +76,11 @@ TheCallsKeepTheMeaning =
     → Compiles source serial out answer out′ answer′ r
     → length answer ≡ 32
     → Accepted source
-    → needed serial source ≤ length out
-    → Asks (take (needed serial source) out′) q ordinal asked asked′ s
+    → bytesNeeded serial source ≤ length out
+    → Asks (take (bytesNeeded serial source) out′) q ordinal asked asked′ s
     → length asked ≡ 40
     → Askable q
-    → (r ≡ 0) × Told source serial (take (needed serial source) out′) q ordinal asked′ s
+    → (r ≡ 0) × Told source serial (take (bytesNeeded serial source) out′) q ordinal asked′ s
 
 -- ---- The same over running code: compile_and_ask compiles into `out`, then asks exactly what it wrote there
 
@@ -98,5 +98,5 @@ pub record Serves (source : List ℕ) (serial : ℕ) (out : List ℕ) (q : Quest
       (numbersOf (compileAnswer source serial (length out)))
   pub output : out′ ≡ compileOutput source serial out
   pub meaning :
-      Accepted source → needed serial source ≤ length out → Askable q
-      → (reply : Reply) × ((r ≡ Outcome.Asked reply) × Tells source serial (take (needed serial source) out′) q ordinal reply)
+      Accepted source → bytesNeeded serial source ≤ length out → Askable q
+      → (reply : Reply) × ((r ≡ Outcome.Asked reply) × Tells source serial (take (bytesNeeded serial source) out′) q ordinal reply)

@@ -1,4 +1,5 @@
 pub mod Compare
+pub mod Fuel
 pub mod Numbers
 pub mod Parts
 pub mod Steps

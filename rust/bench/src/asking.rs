@@ -14,6 +14,8 @@ pub fn table(count: usize) {
     let rounds = 4_000_000 / count;
     let known = inputs::name(count / 2);
     question(&bytes, &known, "a name in the middle", count, rounds);
+    let wildcard = inputs::wildcard_name();
+    question(&bytes, &wildcard, "a wildcard's name", count, rounds);
     let unknown = inputs::unknown_name();
     question(&bytes, &unknown, "no such name", count, rounds);
 }

@@ -36,11 +36,18 @@ pub fn source() -> String {
     source
 }
 
-/// Compiled bytes of so many address records, each with its own name.
+/// What a file begins with: a location, a zone's own records and a wildcard.
+const FIRST: &str = "%in:10\n.example:10.9.0.1:a\n+*.dyn.example:10.7.0.1\n";
+
+/// How many records that makes.
+const FIRST_COUNT: usize = 5;
+
+/// Compiled bytes of so many records: those of [`FIRST`], then addresses, each
+/// with its own name.
 pub fn records(count: usize) -> Vec<u8> {
-    let mut bytes = Vec::new();
+    let mut bytes = compile_to_vec(FIRST.as_bytes(), 1).expect("a good source");
     // A stream may be joined from several; one source couldn't hold it.
-    for first in (0..count).step_by(1_000) {
+    for first in (FIRST_COUNT..count).step_by(1_000) {
         let mut source = String::new();
         for number in first..count.min(first + 1_000) {
             let zone = number % 50;
@@ -58,6 +65,11 @@ pub fn name(number: usize) -> Vec<u8> {
         &format!("zone{}", number % 50),
         "example",
     ])
+}
+
+/// A name that the wildcard of [`records`] answers for.
+pub fn wildcard_name() -> Vec<u8> {
+    wire(&["some", "dyn", "example"])
 }
 
 /// A name that no record answers for, with some ancestors.

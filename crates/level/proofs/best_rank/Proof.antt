@@ -8,7 +8,8 @@ use Rattle.rules.specs.Reading.{decode}
 use mathlib.Core.Bool.{true}
 use Rattle.rules.specs.Lists.{lower, isSome, valueOr}
 use Rattle.ranks.specs.Ranks.{largest, seenRank}
-use Rattle.level.proofs.Bests.{rest-whole, larger, no-larger, most, best·laws}
+use Rattle.level.proofs.Bests.{most, best·laws}
+use Rattle.level.proofs.Bests.{best·laws}
 use Rattle.level.proofs.best_rank.Statement.{statement}
 use Rattle.level.proofs.best_rank.Tie as tie
 
@@ -31,6 +32,24 @@ returns c =
 span-at-requires : tie.Need-span-at-requires Inv-loop μ-loop
 span-at-requires c κs = search best·laws
 
+sub-is-end : tie.Need-sub-is-end Inv-loop μ-loop
+sub-is-end c = search best·laws
+
+part-is-end-start : tie.Need-part-is-end-start Inv-loop μ-loop
+part-is-end-start c = search best·laws
+
+part-is-end-end : tie.Need-part-is-end-end Inv-loop μ-loop
+part-is-end-end c = search best·laws
+
+is-end-requires : tie.Need-is-end-requires Inv-loop μ-loop
+is-end-requires c κs = search best·laws
+
+loop-less : tie.Need-loop-less Inv-loop μ-loop
+loop-less c = search best·laws
+
+loop-again : tie.Need-loop-again Inv-loop μ-loop
+loop-again c = search best·laws
+
 sub-rank-in : tie.Need-sub-rank-in Inv-loop μ-loop
 sub-rank-in c = search best·laws
 
@@ -52,25 +71,17 @@ part-rank-in-end-2 c = search best·laws
 rank-in-requires : tie.Need-rank-in-requires Inv-loop μ-loop
 rank-in-requires c κs = search best·laws
 
-loop-less : tie.Need-loop-less Inv-loop μ-loop
-loop-less c = search best·laws
-
-loop-again : tie.Need-loop-again Inv-loop μ-loop
-loop-again c =
-    let r = c .before in
-    let s = r .before .before .before in
-    let l = s .before .before .before in
-    (s .span-at .ensures .inside, rest-whole _ _ _ (s .span-at .ensures) (l .loop .inv .1), larger _ _ _ _ _ _ _ (l .loop .inv .2) (l .loop .inv .1) _ (s .span-at .ensures) _ (r .rank-in .ensures) (c .if2 .taken))
-
 loop-less-2 : tie.Need-loop-less-2 Inv-loop μ-loop
 loop-less-2 c = search best·laws
 
 loop-again-2 : tie.Need-loop-again-2 Inv-loop μ-loop
-loop-again-2 c =
-    let r = c .before in
-    let s = r .before .before .before in
-    let l = s .before .before .before in
-    (s .span-at .ensures .inside, rest-whole _ _ _ (s .span-at .ensures) (l .loop .inv .1), no-larger _ _ _ _ _ _ _ (l .loop .inv .2) (l .loop .inv .1) _ (s .span-at .ensures) _ (r .rank-in .ensures) (c .if2 .left))
+loop-again-2 c = search best·laws
+
+loop-less-3 : tie.Need-loop-less-3 Inv-loop μ-loop
+loop-less-3 c = search best·laws
+
+loop-again-3 : tie.Need-loop-again-3 Inv-loop μ-loop
+loop-again-3 c = search best·laws
 
 returns-2 : tie.Need-returns-2 Inv-loop μ-loop
 returns-2 c = search best·laws
@@ -84,6 +95,12 @@ best-rank-spec =
     loop-holds
     returns
     span-at-requires
+    sub-is-end
+    part-is-end-start
+    part-is-end-end
+    is-end-requires
+    loop-less
+    loop-again
     sub-rank-in
     part-rank-in-start
     part-rank-in-end
@@ -91,8 +108,8 @@ best-rank-spec =
     part-rank-in-start-2
     part-rank-in-end-2
     rank-in-requires
-    loop-less
-    loop-again
     loop-less-2
     loop-again-2
+    loop-less-3
+    loop-again-3
     returns-2)

@@ -22,10 +22,28 @@ abbrev μ-loop : tie.MeasureT-loop
 loop-holds : tie.Need-loop-holds Inv-loop μ-loop
 loop-holds c =
     let s = c .before .before in
-    (s .pre .0, s .pre .1, refl)
+    (s .pre .1 .0, s .pre .1 .1, refl)
 
 span-at-requires : tie.Need-span-at-requires Inv-loop μ-loop
 span-at-requires c κs = search pick·laws
+
+sub-is-end : tie.Need-sub-is-end Inv-loop μ-loop
+sub-is-end c = search pick·laws
+
+part-is-end-start : tie.Need-part-is-end-start Inv-loop μ-loop
+part-is-end-start c = search pick·laws
+
+part-is-end-end : tie.Need-part-is-end-end Inv-loop μ-loop
+part-is-end-end c = search pick·laws
+
+is-end-requires : tie.Need-is-end-requires Inv-loop μ-loop
+is-end-requires c κs = search pick·laws
+
+loop-less : tie.Need-loop-less Inv-loop μ-loop
+loop-less c = search pick·laws
+
+loop-again : tie.Need-loop-again Inv-loop μ-loop
+loop-again c = search pick·laws
 
 sub-is-wanted : tie.Need-sub-is-wanted Inv-loop μ-loop
 sub-is-wanted c = search pick·laws
@@ -75,17 +93,17 @@ returns c = search pick·laws
 sub-left : tie.Need-sub-left Inv-loop μ-loop
 sub-left c = search pick·laws
 
-loop-less : tie.Need-loop-less Inv-loop μ-loop
-loop-less c = search pick·laws
-
-loop-again : tie.Need-loop-again Inv-loop μ-loop
-loop-again c = search pick·laws
-
 loop-less-2 : tie.Need-loop-less-2 Inv-loop μ-loop
 loop-less-2 c = search pick·laws
 
 loop-again-2 : tie.Need-loop-again-2 Inv-loop μ-loop
 loop-again-2 c = search pick·laws
+
+loop-less-3 : tie.Need-loop-less-3 Inv-loop μ-loop
+loop-less-3 c = search pick·laws
+
+loop-again-3 : tie.Need-loop-again-3 Inv-loop μ-loop
+loop-again-3 c = search pick·laws
 
 returns-2 : tie.Need-returns-2 Inv-loop μ-loop
 returns-2 c = search pick·laws
@@ -98,6 +116,12 @@ pick-record-spec =
     μ-loop
     loop-holds
     span-at-requires
+    sub-is-end
+    part-is-end-start
+    part-is-end-end
+    is-end-requires
+    loop-less
+    loop-again
     sub-is-wanted
     part-is-wanted-start
     part-is-wanted-end
@@ -114,8 +138,8 @@ pick-record-spec =
     reply-in-requires
     returns
     sub-left
-    loop-less
-    loop-again
     loop-less-2
     loop-again-2
+    loop-less-3
+    loop-again-3
     returns-2)

@@ -1,0 +1,48 @@
+use Rattle.locate.proofs.Locating.{step·laws}
+use Rattle.locate.proofs.step_in.Statement.{statement}
+use Rattle.locate.proofs.step_in.Tie as tie
+
+record-in-requires : tie.Need-record-in-requires
+record-in-requires c κs = search step·laws
+
+enum-told : tie.Need-enum-told
+enum-told c = search step·laws
+
+enum-known-found : tie.Need-enum-known-found
+enum-known-found c = search step·laws
+
+better-in-requires : tie.Need-better-in-requires
+better-in-requires c κs = search step·laws
+
+enum-known-wild : tie.Need-enum-known-wild
+enum-known-wild c = search step·laws
+
+may-answer-requires : tie.Need-may-answer-requires
+may-answer-requires c κs = search step·laws
+
+returns : tie.Need-returns
+returns c = search step·laws
+
+returns-2 : tie.Need-returns-2
+returns-2 c = search step·laws
+
+returns-3 : tie.Need-returns-3
+returns-3 c = search step·laws
+
+returns-4 : tie.Need-returns-4
+returns-4 c = search step·laws
+
+pub step-in-spec : {M : Type 1} → statement M
+step-in-spec =
+    tie.close
+    (tie.spec
+    record-in-requires
+    enum-told
+    enum-known-found
+    better-in-requires
+    enum-known-wild
+    may-answer-requires
+    returns
+    returns-2
+    returns-3
+    returns-4)
