@@ -1,3 +1,4 @@
 pub mod Prefixes
 pub mod Skipping
+pub mod Steps
 pub mod Locating

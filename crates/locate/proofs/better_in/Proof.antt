@@ -1,4 +1,4 @@
-use Rattle.locate.proofs.Locating.{better·laws}
+use Rattle.locate.proofs.Steps.{better·laws}
 use Rattle.locate.proofs.better_in.Statement.{statement}
 use Rattle.locate.proofs.better_in.Tie as tie
 

@@ -1,4 +1,4 @@
-use Rattle.locate.proofs.Locating.{matches·laws}
+use Rattle.locate.proofs.Steps.{matches·laws}
 use Rattle.locate.proofs.matches.Statement.{statement}
 use Rattle.locate.proofs.matches.Tie as tie
 

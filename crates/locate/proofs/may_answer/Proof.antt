@@ -1,4 +1,4 @@
-use Rattle.locate.proofs.Locating.{answer·laws}
+use Rattle.locate.proofs.Steps.{answer·laws}
 use Rattle.locate.proofs.may_answer.Statement.{statement}
 use Rattle.locate.proofs.may_answer.Tie as tie
 

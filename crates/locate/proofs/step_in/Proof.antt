@@ -1,4 +1,4 @@
-use Rattle.locate.proofs.Locating.{step·laws}
+use Rattle.locate.proofs.Steps.{step·laws}
 use Rattle.locate.proofs.step_in.Statement.{statement}
 use Rattle.locate.proofs.step_in.Tie as tie
 

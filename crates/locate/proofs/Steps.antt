@@ -1,0 +1,114 @@
+-- One record of the pass: a prefix, a location, a record that may answer or not.
+use mathlib.Core.Path.{_≡_, ap, _∙_, sym}
+use mathlib.Core.Bool.{Bool, true, false, not, and-true, and-false}
+use mathlib.Core.List.{List, [], _∷_, map}
+use mathlib.Core.Option.{some}
+use Prim.Native.Nat.{ℕ, suc, _+_, _-_, _<_, _≤_}
+use native.Mathlib.Omega.{arith}
+use native.Mathlib.Numerals.{add-one}
+use borrow.Author.Needs.{needs}
+use borrow.Author.Tests.{eq-eqb, ne-eqb, le-leb, lt-leb, not-true, not-false}
+use lib.ListN.{length, take, drop, length-drop, length-map}
+use lib.Dec.{eqb}
+use Rattle.rules.specs.declared.quantities.Lo.{Lo}
+use Rattle.rules.specs.declared.quantities.Shared.{Shared}
+use Rattle.rules.specs.Lists.{pick, lower, beginsWith}
+use Rattle.rules.specs.Records.{location, resource, loBytes}
+use Rattle.rules.specs.Bytes.{wild}
+use Rattle.rules.specs.Questions.{matches, better}
+use Rattle.rules.specs.Reading.{recordIn}
+use Rattle.wire.proofs.Parts.{tail-lent}
+use Rattle.judge.specs.declared.Seen.{Seen}
+use Rattle.judge.specs.Seen.{ownerOf, seenRecord}
+use Rattle.judge.proofs.Shapes.{shaped, is-resource, good-key, owner-wild}
+use Rattle.ranks.specs.Ranks.{endsIn}
+use Rattle.locate.specs.declared.Located.{Located}
+use Rattle.locate.specs.declared.Step.{Step}
+use Rattle.locate.specs.Locations.{bestSeen}
+use Rattle.locate.specs.Steps.{mayAnswer, stepSeen, stepOf}
+
+-- ---- a prefix
+
+pub other-client : (client prefix : List ℕ) → (length client ≡ 4 → ⊥) → eqb (length prefix) 0 ≡ matches client prefix
+unfolding matches beginsWith
+other-client client [] h = rw (ne-eqb _ _ h)
+other-client client (x ∷ prefix) h = rw (ne-eqb _ _ h, ne-eqb (suc (length prefix)) 0 (λ e. omega arith), and-false)
+
+pub client-of-four : (client prefix : List ℕ) (t : Bool) → length client ≡ 4 → t ≡ beginsWith prefix client → t ≡ matches client prefix
+unfolding matches
+client-of-four client prefix t h q = rw (eq-eqb _ _ h, q, and-true)
+
+pub ruleset matches·laws = (needs, other-client, client-of-four)
+
+-- ---- a location
+
+module _ (client key : List ℕ) (located : Located) (found : Lo) (t : Bool) (m : t ≡ matches client (take (length key - 2) (drop 2 key))) where
+  is-match : matches client (drop 2 key) ≡ t
+  is-match = sym (m ∙ ap (matches client) (tail-lent key 2))
+
+  pub no-match : not t ≡ true → bestSeen located ≡ better client (bestSeen located) (location (drop 2 key) (loBytes found))
+  unfolding better pick
+  no-match n = rw (is-match, not-true t n)
+
+  pub too-short : not t ≡ false → length key - 2 < located .least → bestSeen located ≡ better client (bestSeen located) (location (drop 2 key) (loBytes found))
+  unfolding bestSeen better pick
+  too-short n h = rw (is-match, not-false t n, lt-leb (located .least) (length (drop 2 key)) (omega (arith, length-drop 2 key)))
+
+  pub longer : not t ≡ false → located .least ≤ length key - 2
+      → bestSeen (record { lo = found; least = length key - 2 + 1 }) ≡ better client (bestSeen located) (location (drop 2 key) (loBytes found))
+  unfolding bestSeen better pick
+  longer n h = rw (is-match, not-false t n, le-leb (located .least) (length (drop 2 key)) (omega (arith, length-drop 2 key)), length-drop 2 key, add-one)
+
+pub ruleset better·laws = (needs, no-match, too-short, longer)
+
+-- ---- one record
+
+module _ (client name : List ℕ) (located : Located) (key rdata : List ℕ) (seen : Seen) (e : seenRecord key rdata seen ≡ recordIn key rdata) where
+  pub step-broken : seen ≡ Seen.Broken → stepSeen Step.Broken ≡ stepOf client name (bestSeen located) key (recordIn key rdata)
+  unfolding seenRecord stepSeen stepOf
+  step-broken q = rw (← e, q)
+
+  module _ (found : Lo) (q : seen ≡ Seen.Location found) where
+    is-location : recordIn key rdata ≡ some (location (drop 2 key) (loBytes found))
+    unfolding seenRecord
+    is-location = sym e ∙ ap (seenRecord key rdata) q
+
+    pub prefix-there : 2 ≤ length key
+    prefix-there = omega (arith, ap length (shaped key rdata _ is-location .0))
+
+    pub step-location : (r : Located) → bestSeen r ≡ better client (bestSeen located) (location (drop 2 key) (loBytes found))
+        → stepSeen (Step.Goes r) ≡ stepOf client name (bestSeen located) key (recordIn key rdata)
+    unfolding stepSeen stepOf
+    step-location r b = rw (is-location, b)
+
+  module _ (w : Bool) (type : ℕ) (shared : Shared) (fixed : ℕ) (q : seen ≡ Seen.Resource w type shared fixed) (t : Bool) (k : t ≡ mayAnswer name key w) where
+    owned : recordIn key rdata ≡ some (resource (ownerOf w key) type (loBytes (shared .lo)) (shared .ttl .0) (shared .time .0) (drop fixed rdata))
+    owned = is-resource key rdata seen e w type shared fixed q
+
+    marked : wild (ownerOf w key) ≡ w
+    marked = owner-wild w key (good-key key rdata seen e w type shared fixed q)
+
+    pub step-stops : t ≡ true → stepSeen Step.Stops ≡ stepOf client name (bestSeen located) key (recordIn key rdata)
+    unfolding stepSeen stepOf pick
+    step-stops y = rw (owned, marked, ← k, y)
+
+    pub step-goes : t ≡ false → stepSeen (Step.Goes located) ≡ stepOf client name (bestSeen located) key (recordIn key rdata)
+    unfolding stepSeen stepOf pick
+    step-goes y = rw (owned, marked, ← k, y)
+
+module _ (name key : List ℕ) (w t : Bool) (k : t ≡ endsIn (map lower name) key) where
+  pub no-end : not t ≡ true → false ≡ mayAnswer (map lower name) key w
+  unfolding mayAnswer
+  no-end n = rw (← k, not-true t n)
+
+  pub wildcard-answers : not t ≡ false → w ≡ true → true ≡ mayAnswer (map lower name) key w
+  unfolding mayAnswer
+  wildcard-answers n y = rw (← k, not-false t n, y)
+
+  pub own-answers : not t ≡ false → w ≡ false → eqb (length name) (length key) ≡ mayAnswer (map lower name) key w
+  unfolding mayAnswer
+  own-answers n y = rw (← k, not-false t n, y, length-map name lower)
+
+pub ruleset answer·laws = (needs, no-end, wildcard-answers, own-answers)
+
+pub ruleset step·laws = (needs, step-broken, prefix-there, step-location, step-stops, step-goes)
