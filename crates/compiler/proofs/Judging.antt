@@ -9,12 +9,11 @@ use borrow.Author.Needs.{needs}
 use lib.ListN.{length, take, drop, drop-of-length-le}
 use Rattle.rules.specs.Lists.{pick, all, joinAll}
 use Rattle.rules.specs.Kinds.{linesOf}
-use Rattle.rules.specs.Records.{Record}
 use Rattle.rules.specs.Bytes.{sizeOfAll, bytesOf}
 use Rattle.rules.specs.Answers.{faultNumber, isDone, isGood, lineFault, lineRecords, sourceRecords, answer, judgeLines}
 use Rattle.rules.specs.declared.faults.Fault.{Fault}
 use Rattle.rules.specs.declared.faults.LineFault.{LineFault}
-use Rattle.rules.proofs.Meaning.{length-bytes}
+use Rattle.rules.proofs.Meaning.{length-bytes, sizes-add}
 use Rattle.rules.proofs.Sizes.{line-short}
 use Rattle.refusals.proofs.Numbers.{zero-done, other-refused}
 use Rattle.buffer.specs.Put.{IsPut}
@@ -104,11 +103,6 @@ module _ (serial : ℕ) (s : List ℕ) (number total at : ℕ) (g : Judging seri
 pub ruleset judge·laws = (needs, begin-judging, all-judged, line-end, bad-line)
 
 -- ---- what judging answers
-
-sizes-add : (a b : List Record) → sizeOfAll (a ++ b) ≡ sizeOfAll a + sizeOfAll b
-unfolding sizeOfAll
-sizes-add [] b = omega arith
-sizes-add (r ∷ a) b = omega (arith, sizes-add a b)
 
 pub judged-from : (serial number total : ℕ) (ls : List (List ℕ))
     → judgedFrom serial number total ls

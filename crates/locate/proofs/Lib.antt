@@ -1,4 +1,5 @@
 pub mod Prefixes
-pub mod Skipping
+pub mod Unranked
+pub mod Covering
 pub mod Steps
 pub mod Locating

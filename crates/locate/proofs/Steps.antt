@@ -77,7 +77,7 @@ module _ (client name : List ℕ) (located : Located) (key rdata : List ℕ) (se
     prefix-there = omega (arith, ap length (shaped key rdata _ is-location .0))
 
     pub step-location : (r : Located) → bestSeen r ≡ better client (bestSeen located) (location (drop 2 key) (loBytes found))
-        → stepSeen (Step.Goes r) ≡ stepOf client name (bestSeen located) key (recordIn key rdata)
+        → stepSeen (Step.Better r) ≡ stepOf client name (bestSeen located) key (recordIn key rdata)
     unfolding stepSeen stepOf
     step-location r b = rw (is-location, b)
 
@@ -88,13 +88,13 @@ module _ (client name : List ℕ) (located : Located) (key rdata : List ℕ) (se
     marked : wild (ownerOf w key) ≡ w
     marked = owner-wild w key (good-key key rdata seen e w type shared fixed q)
 
-    pub step-stops : t ≡ true → stepSeen Step.Stops ≡ stepOf client name (bestSeen located) key (recordIn key rdata)
+    pub step-candidate : t ≡ true → stepSeen Step.Candidate ≡ stepOf client name (bestSeen located) key (recordIn key rdata)
     unfolding stepSeen stepOf pick
-    step-stops y = rw (owned, marked, ← k, y)
+    step-candidate y = rw (owned, marked, ← k, y)
 
-    pub step-goes : t ≡ false → stepSeen (Step.Goes located) ≡ stepOf client name (bestSeen located) key (recordIn key rdata)
+    pub step-other : t ≡ false → stepSeen Step.Other ≡ stepOf client name (bestSeen located) key (recordIn key rdata)
     unfolding stepSeen stepOf pick
-    step-goes y = rw (owned, marked, ← k, y)
+    step-other y = rw (owned, marked, ← k, y)
 
 module _ (name key : List ℕ) (w t : Bool) (k : t ≡ endsIn (map lower name) key) where
   pub no-end : not t ≡ true → false ≡ mayAnswer (map lower name) key w
@@ -111,4 +111,4 @@ module _ (name key : List ℕ) (w t : Bool) (k : t ≡ endsIn (map lower name) k
 
 pub ruleset answer·laws = (needs, no-end, wildcard-answers, own-answers)
 
-pub ruleset step·laws = (needs, step-broken, prefix-there, step-location, step-stops, step-goes)
+pub ruleset step·laws = (needs, step-broken, prefix-there, step-location, step-candidate, step-other)

@@ -1,3 +1,4 @@
+pub mod Covers
 pub mod Locations
-pub mod Skips
+pub mod Reaches
 pub mod Steps

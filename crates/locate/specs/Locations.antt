@@ -22,9 +22,4 @@ bestSeen r = record { lo = loBytes (r .lo); atLeast = r .least }
 
 unfoldable pub judgedLo : Judged → Option (List ℕ)
 judgedLo Judged.Broken = none
-judgedLo (Judged.Whole lo from) = some (loBytes lo)
-
--- where the records that can answer begin
-unfoldable pub fromIn : Judged → ℕ
-fromIn Judged.Broken = 0
-fromIn (Judged.Whole lo from) = from
+judgedLo (Judged.Whole lo from until) = some (loBytes lo)

@@ -7,9 +7,10 @@ ghost use Rattle.rules.specs.Lists.{lower, beginsWith};
 ghost use Rattle.rules.specs.Records.{location, loBytes};
 ghost use Rattle.rules.specs.Questions.{matches, better};
 ghost use Rattle.rules.specs.Reading.{recordIn, decode};
-ghost use Rattle.locate.specs.Locations.{bestSeen, judgedLo, locatedIn, fromIn};
-ghost use Rattle.locate.specs.Skips.{Skips};
-ghost use Rattle.locate.specs.Steps.{mayAnswer, stepSeen, stepOf, IsReached};
+ghost use Rattle.locate.specs.Covers.{Covered};
+ghost use Rattle.locate.specs.Locations.{bestSeen, judgedLo, locatedIn};
+ghost use Rattle.locate.specs.Reaches.{IsReached, GoesOn};
+ghost use Rattle.locate.specs.Steps.{mayAnswer, stepSeen, stepOf};
 use judge::Seen;
 use judge::record_in;
 use ranks::is_end;
@@ -22,23 +23,28 @@ struct Located {
     least: usize,
 }
 
-// What a record is to the pass: malformed, one that may answer, or one that is passed, with the better location.
+// What a record is to the pass: malformed, a location, with the better of it and the one so far, one that may answer, or any other.
 enum Step {
     Broken,
-    Stops,
-    Goes(Located),
+    Better(Located),
+    Candidate,
+    Other,
 }
 
-// The location up to a place, and whether a whole record, or the end, stands there.
+// How far a stream is judged: the location up to a place, the part before it outside which no record can answer, whose end is 0 where none was
+// found, and whether all is whole so far, or else a malformed record stands at the place.
 struct Reached {
     located: Located,
+    from: usize,
+    until: usize,
     at: usize,
     whole: bool,
 }
 
-// Whether a stream is whole records, and then the client's location, and a place before which no record can answer.
+// Whether a stream is whole records, and then the client's location, and the part, from one place up to another, outside which no record can
+// answer.
 pub enum Judged {
-    Whole(Lo, usize),
+    Whole(Lo, usize, usize),
     Broken,
 }
 
@@ -106,7 +112,7 @@ fn step_in(client: &[u8], name: &[u8], located: Located, key: &[u8], rdata: &[u8
 {
     match record_in(key, rdata) {
         Seen::Broken => Step::Broken,
-        Seen::Location(found) => Step::Goes(better_in(client, located, found, key)),
+        Seen::Location(found) => Step::Better(better_in(client, located, found, key)),
         Seen::Resource {
             wild,
             rtype: _,
@@ -114,21 +120,25 @@ fn step_in(client: &[u8], name: &[u8], located: Located, key: &[u8], rdata: &[u8
             fixed: _,
         } => {
             if may_answer(name, key, wild) {
-                return Step::Stops;
+                return Step::Candidate;
             }
-            Step::Goes(located)
+            Step::Other
         }
     }
 }
 
-// Judges records from a place on, up to the first that may answer for a name.
-fn locate_from(stream: &[u8], client: &[u8], name: &[u8], known: Located, from: usize) -> Reached
-    requires { ⌜ from ≤ length (now stream) ⌝ }
-    ensures { λ r. ⌜ IsReached (now (client .entry)) (map lower (now (name .entry))) (now (stream .entry)) (bestSeen known) from r ⌝ }
+// Goes on from what is known of a stream: to its end, or up to the end of the first record that may answer, if none was found before. So the
+// loop itself need not keep where that one stands.
+fn judge_from(stream: &[u8], client: &[u8], name: &[u8], known: Reached) -> Reached
+    requires { ⌜ IsReached (now client) (map lower (now name)) (now stream) known ⌝ }
+    ensures { λ r. ⌜ IsReached (now (client .entry)) (map lower (now (name .entry))) (now (stream .entry)) r ⌝ }
+    ensures { λ r. ⌜ GoesOn (now (stream .entry)) known r ⌝ }
 {
     let n = stream.len();
-    let mut located = known;
-    let mut at = from;
+    let from = known.from;
+    let mut located = known.located;
+    let mut until = known.until;
+    let mut at = known.at;
     while at < n {
         let span = span_at(stream, at);
         let start = span.start;
@@ -144,51 +154,70 @@ fn locate_from(stream: &[u8], client: &[u8], name: &[u8], known: Located, from: 
             Step::Broken => {
                 return Reached {
                     located,
+                    from,
+                    until,
                     at,
                     whole: false,
                 };
             }
-            Step::Stops => {
-                return Reached {
-                    located,
-                    at,
-                    whole: true,
-                };
-            }
-            Step::Goes(better) => {
+            Step::Better(better) => {
                 located = better;
+                at = next;
+            }
+            Step::Candidate => {
+                if until == 0 {
+                    return Reached {
+                        located,
+                        from: at,
+                        until: next,
+                        at: next,
+                        whole: true,
+                    };
+                }
+                until = next;
+                at = next;
+            }
+            Step::Other => {
                 at = next;
             }
         }
     }
     Reached {
         located,
+        from,
+        until,
         at,
         whole: true,
     }
 }
 
-// Every record is read, also behind the last location: a stream is judged whole before anything of it is answered. From the first record that
-// may answer on there is no name to look for, and nothing to stop at.
+// Every record is read, also behind the last location: a stream is judged whole before anything of it is answered.
 pub fn judge_and_locate(stream: &[u8], client: &[u8], name: &[u8]) -> Judged
     ensures { λ r. ⌜ judgedLo r ≡ locatedIn (now (client .entry)) (decode (now (stream .entry))) ⌝ }
-    ensures { λ r. ⌜ Skips (map lower (now (name .entry))) (now (stream .entry)) (fromIn r) ⌝ }
+    ensures { λ r. ⌜ Covered (map lower (now (name .entry))) (now (stream .entry)) r ⌝ }
 {
     let nothing = Located {
         lo: Lo::Every,
         least: 0,
     };
-    let first = locate_from(stream, client, name, nothing, 0);
-    let located = first.located;
-    let from = first.at;
+    let start = Reached {
+        located: nothing,
+        from: 0,
+        until: 0,
+        at: 0,
+        whole: true,
+    };
+    let first = judge_from(stream, client, name, start);
     if !first.whole {
         return Judged::Broken;
     }
-    let rest = locate_from(stream, client, &name[..0], located, from);
-    if !rest.whole {
+    let all = judge_from(stream, client, name, first);
+    if !all.whole {
         return Judged::Broken;
     }
-    let best = rest.located;
+    let best = all.located;
     let lo = best.lo;
-    Judged::Whole(lo, from)
+    let from = all.from;
+    let until = all.until;
+    Judged::Whole(lo, from, until)
 }

@@ -24,6 +24,7 @@ use Rattle.judge.specs.declared.Seen.{Seen}
 use Rattle.judge.specs.Seen.{ownerOf, seenRecord, fixedIn}
 use Rattle.stream.specs.Spans.{IsSpan}
 use Rattle.stream.proofs.Heads.{decode-nil}
+use Rattle.stream.proofs.Joins.{key-there}
 use Rattle.view.specs.Views.{sharing}
 use Rattle.ranks.specs.Ranks.{endsIn, seenRank, rankIn}
 use Rattle.ranks.proofs.KeyRanks.{unrelated}
@@ -120,11 +121,6 @@ same-reply type name here moment best end (location prefix lo) w =
     absurd (omega arith)
 same-reply type name here moment best end (resource owner rtype lo ttl time rd) w = refl
 
-key-there : (key rdata : List ℕ) (r : Record) → recordIn key rdata ≡ some r → 0 < length key
-unfolding recordIn
-key-there [] rdata r e = let z : _≡_ {A = ℕ} 0 1 = cc in absurd (omega arith)
-key-there (b ∷ key) rdata r e = omega arith
-
 module _ (stream : List ℕ) (at : ℕ) (span : Span) (i : IsSpan stream at span) where
   key-long : length (take (span .middle - span .start) (drop (span .start) stream)) ≡ span .middle - span .start
   key-long = length-take-le _ _ (omega (arith, length-drop (span .start) stream, i .inside, i .key-first, i .data-behind))
@@ -133,11 +129,12 @@ module _ (stream : List ℕ) (at : ℕ) (span : Span) (i : IsSpan stream at span
   data-long = length-take-le _ _ (omega (arith, length-drop (span .middle) stream, i .inside, i .data-behind))
 
   -- a record ends where the next begins
-  ends : (w : Whole stream at span) → at + size (w .rec) ≡ span .next
-  ends w =
-      let s : size (w .rec) ≡ 8 + length (take (span .middle - span .start) (drop (span .start) stream)) + length (take (span .next - span .middle) (drop (span .middle) stream))
-      = size-is _ _ (w .rec) (shaped _ _ (w .rec) (w .read)) in
-      let k : 0 < length (take (span .middle - span .start) (drop (span .start) stream)) = key-there _ _ (w .rec) (w .read) in
+  pub ends : (r : Record) → recordIn (take (span .middle - span .start) (drop (span .start) stream)) (take (span .next - span .middle) (drop (span .middle) stream)) ≡ some r
+      → at + size r ≡ span .next
+  ends r e =
+      let s : size r ≡ 8 + length (take (span .middle - span .start) (drop (span .start) stream)) + length (take (span .next - span .middle) (drop (span .middle) stream))
+      = size-is _ _ r (shaped _ _ r e) in
+      let k : 0 < length (take (span .middle - span .start) (drop (span .start) stream)) = key-there _ _ r e in
       let h : span .start ≡ at + 8 = i .lengths-first (omega (arith, key-long)) in
       omega (arith, key-long, data-long, i .key-first, i .data-behind)
 
@@ -163,19 +160,19 @@ module _ (type : ℕ) (name here : List ℕ) (moment best : ℕ) (stream : List 
     picked-here r y z p =
         p ∙ ap (replyIn moment (span .next)) (whole .read)
         ∙ same-reply type name here moment best (span .next) (whole .rec) (is-wanted ∙ y)
-        ∙ ap (λ (n : ℕ). replyOf moment (some (record { rec = whole .rec; end = n }))) (sym (ends stream at span i whole))
+        ∙ ap (λ (n : ℕ). replyOf moment (some (record { rec = whole .rec; end = n }))) (sym (ends stream at span i (whole .rec) (whole .read)))
         ∙ sym (take-it type name here moment best at left (whole .rec) _ (is-wanted ∙ y) z)
         ∙ left-over
 
     pub picked-later : t ≡ true → (left ≡ 0 → ⊥) → pickedFrom type name here moment best (span .next) (left - 1) (valueOr [] (decode (drop (span .next) stream))) ≡ all
     picked-later y z =
-        ap (λ (n : ℕ). pickedFrom type name here moment best n (left - 1) (valueOr [] (decode (drop (span .next) stream)))) (sym (ends stream at span i whole))
+        ap (λ (n : ℕ). pickedFrom type name here moment best n (left - 1) (valueOr [] (decode (drop (span .next) stream)))) (sym (ends stream at span i (whole .rec) (whole .read)))
         ∙ sym (count-it type name here moment best at left (whole .rec) _ (is-wanted ∙ y) z)
         ∙ left-over
 
     pub not-picked : t ≡ false → pickedFrom type name here moment best (span .next) left (valueOr [] (decode (drop (span .next) stream))) ≡ all
     not-picked y =
-        ap (λ (n : ℕ). pickedFrom type name here moment best n left (valueOr [] (decode (drop (span .next) stream)))) (sym (ends stream at span i whole))
+        ap (λ (n : ℕ). pickedFrom type name here moment best n left (valueOr [] (decode (drop (span .next) stream)))) (sym (ends stream at span i (whole .rec) (whole .read)))
         ∙ sym (pass-by type name here moment best at left (whole .rec) _ (is-wanted ∙ y))
         ∙ left-over
 

@@ -6,7 +6,8 @@ use Prim.Native.Nat.{ℕ, _+_, _≤_, max}
 use native.Mathlib.Omega.{arith}
 use borrow.Author.Needs.{needs}
 use borrow.Author.Tests.{eq-eqb, ne-eqb}
-use lib.ListN.{length, drop}
+use lib.ListN.{length, take, drop}
+use lib.Seq.{length-take-le}
 use lib.Dec.{eqb}
 use Rattle.rules.specs.declared.replies.Reply.{Reply}
 use Rattle.rules.specs.Lists.{pick, keep, lower, isSome, valueOr}
@@ -19,7 +20,7 @@ use Rattle.rules.proofs.Decoding.{wire-lower}
 use Rattle.ranks.specs.Ranks.{rankOf, largest, chosen, seenRank}
 use Rattle.picks.specs.Picks.{wanted, pickedFrom}
 use Rattle.reader.specs.Answers.{answeredFrom}
-use Rattle.locate.specs.Skips.{Skips}
+use Rattle.locate.specs.Covers.{Covers}
 use Rattle.level.proofs.Levels.{level-is}
 
 -- ---- level and type in one test
@@ -55,17 +56,23 @@ unfolding largest placedFrom
 largest-placed f at [] = refl
 largest-placed f at (r ∷ rs) = rw (largest-placed f (at + size r) rs)
 
--- ---- what is passed over
+-- ---- the part that can answer
 
-module _ (name stream : List ℕ) (from : ℕ) (s : Skips name stream from) where
-  pub rest-inside : from ≤ length stream
-  rest-inside = s .inside
+module _ (name stream : List ℕ) (from until : ℕ) (s : Covers name stream from until) where
+  pub part-there : until ≤ length stream
+  part-there = s .inside
 
-  pub rest-whole : isSome (decode stream) ≡ true → isSome (decode (drop from stream)) ≡ true
-  rest-whole w = s .rest w
+  pub part-long : until ≡ length (take until stream)
+  part-long = sym (length-take-le until stream (s .inside))
 
-module _ (type : ℕ) (name here : List ℕ) (moment ordinal : ℕ) (stream : List ℕ) (from best : ℕ) (wire : isWire name ≡ true) (w : isSome (decode stream) ≡ true) (s : Skips (map lower name) stream from)
-    (b : best ≡ largest (seenRank (map lower name) here moment) (valueOr [] (decode (drop from stream)))) where
+  pub part-inside : from ≤ length (take until stream)
+  part-inside = omega (arith, length-take-le until stream (s .inside), s .ordered)
+
+  pub part-whole : isSome (decode stream) ≡ true → isSome (decode (drop from (take until stream))) ≡ true
+  part-whole w = s .whole w
+
+module _ (type : ℕ) (name here : List ℕ) (moment ordinal : ℕ) (stream : List ℕ) (from until best : ℕ) (wire : isWire name ≡ true) (w : isSome (decode stream) ≡ true) (s : Covers (map lower name) stream from until)
+    (b : best ≡ largest (seenRank (map lower name) here moment) (valueOr [] (decode (drop from (take until stream))))) where
   abbrev rs : List Record
   rs = valueOr [] (decode stream)
 
@@ -85,8 +92,8 @@ module _ (type : ℕ) (name here : List ℕ) (moment ordinal : ℕ) (stream : Li
   unfolding answeredFrom replyOf
   no-level z = rw (level-best, eq-eqb best 0 z) (unfold keep pick in refl)
 
-  pub of-level : (r : Reply) → (best ≡ 0 → ⊥) → r ≡ pickedFrom type lname here moment best from ordinal (valueOr [] (decode (drop from stream))) → r ≡ answeredFrom type lname here moment ordinal rs
+  pub of-level : (r : Reply) → (best ≡ 0 → ⊥) → r ≡ pickedFrom type lname here moment best from ordinal (valueOr [] (decode (drop from (take until stream)))) → r ≡ answeredFrom type lname here moment ordinal rs
   unfolding answeredFrom pickedFrom pick
   of-level r z e = e ∙ s .picks type here moment best ordinal w z ∙ sym (rw (level-best, ne-eqb best 0 z, all-wanted type lname here moment best z (placedFrom 0 rs)))
 
-pub ruleset answer·laws = (needs, rest-inside, rest-whole, no-level, of-level)
+pub ruleset answer·laws = (needs, part-there, part-long, part-inside, part-whole, no-level, of-level)

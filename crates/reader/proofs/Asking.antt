@@ -19,8 +19,8 @@ use Rattle.rules.specs.Bytes.{size}
 use Rattle.rules.specs.Questions.{Question, Placed, placedFrom, locationOf, answers}
 use Rattle.rules.specs.Reading.{momentEnd, isClient, decode, replyFrom, replyDecoded, askReply}
 use Rattle.locate.specs.declared.Judged.{Judged}
-use Rattle.locate.specs.Locations.{locatedIn, judgedLo, fromIn}
-use Rattle.locate.specs.Skips.{Skips}
+use Rattle.locate.specs.Covers.{Covers, Covered}
+use Rattle.locate.specs.Locations.{locatedIn, judgedLo}
 use Rattle.reader.specs.Answers.{answeredFrom}
 
 -- ---- the client
@@ -47,20 +47,20 @@ replied : (q : Question) (ordinal : ℕ) (rs : List Record)
 unfolding replyFrom answers answeredFrom
 replied q ordinal rs = rw (placed-back 0 rs)
 
-module _ (client : List ℕ) (here : Lo) (from : ℕ) where
-  located : (o : Option (List Record)) → judgedLo (Judged.Whole here from) ≡ locatedIn client o → isSome o ≡ true
+module _ (client : List ℕ) (here : Lo) (from until : ℕ) where
+  located : (o : Option (List Record)) → judgedLo (Judged.Whole here from until) ≡ locatedIn client o → isSome o ≡ true
   unfolding judgedLo locatedIn isSome
   located none e = let z : _≡_ {A = ℕ} 0 1 = cc in absurd (omega arith)
   located (some rs) e = refl
 
-  located-here : (o : Option (List Record)) → judgedLo (Judged.Whole here from) ≡ locatedIn client o → loBytes here ≡ locationOf client (valueOr [] o)
+  located-here : (o : Option (List Record)) → judgedLo (Judged.Whole here from until) ≡ locatedIn client o → loBytes here ≡ locationOf client (valueOr [] o)
   unfolding judgedLo locatedIn valueOr
   located-here none e = let z : _≡_ {A = ℕ} 0 1 = cc in absurd (omega arith)
   located-here (some rs) e = cc
 
 module _ (stream client : List ℕ) (j : Judged) (e : judgedLo j ≡ locatedIn client (decode stream)) where
-  pub judged-whole : (here : Lo) (from : ℕ) → j ≡ Judged.Whole here from → isSome (decode stream) ≡ true
-  judged-whole here from w = located client here from (decode stream) (rw w at e)
+  pub judged-whole : (here : Lo) (from until : ℕ) → j ≡ Judged.Whole here from until → isSome (decode stream) ≡ true
+  judged-whole here from until w = located client here from until (decode stream) (rw w at e)
 
   not-whole : (q : Question) (ordinal : ℕ) → j ≡ Judged.Broken → Reply.Refused AskFault.Records ≡ replyDecoded (decode stream) q ordinal
   not-whole q ordinal w = go (decode stream) (rw w at e)
@@ -69,18 +69,17 @@ module _ (stream client : List ℕ) (j : Judged) (e : judgedLo j ≡ locatedIn c
       go none e = unfold replyDecoded in refl
       go (some rs) e = unfold judgedLo locatedIn in (let z : _≡_ {A = ℕ} 0 1 = cc in absurd (omega arith))
 
-  whole-reply : (q : Question) (ordinal : ℕ) (here : Lo) (from : ℕ) (r : Reply) → q .client ≡ client → j ≡ Judged.Whole here from
+  whole-reply : (q : Question) (ordinal : ℕ) (here : Lo) (from until : ℕ) (r : Reply) → q .client ≡ client → j ≡ Judged.Whole here from until
       → r ≡ answeredFrom (q .type) (map lower (q .name)) (loBytes here) (q .moment) ordinal (valueOr [] (decode stream)) → r ≡ replyDecoded (decode stream) q ordinal
-  whole-reply q ordinal here from r k w a = go (decode stream) (rw w at e) a
+  whole-reply q ordinal here from until r k w a = go (decode stream) (rw w at e) a
     where
-      go : (o : Option (List Record)) → judgedLo (Judged.Whole here from) ≡ locatedIn client o
+      go : (o : Option (List Record)) → judgedLo (Judged.Whole here from until) ≡ locatedIn client o
           → r ≡ answeredFrom (q .type) (map lower (q .name)) (loBytes here) (q .moment) ordinal (valueOr [] o) → r ≡ replyDecoded o q ordinal
       go none e a = unfold judgedLo locatedIn in (let z : _≡_ {A = ℕ} 0 1 = cc in absurd (omega arith))
-      go (some rs) e a = unfold replyDecoded in (a ∙ rw (located-here client here from (some rs) e, ← k) (unfold valueOr in sym (replied q ordinal rs)))
+      go (some rs) e a = unfold replyDecoded in (a ∙ rw (located-here client here from until (some rs) e, ← k) (unfold valueOr in sym (replied q ordinal rs)))
 
-pub judged-skips : (name stream : List ℕ) (j : Judged) (here : Lo) (from : ℕ) → Skips name stream (fromIn j) → j ≡ Judged.Whole here from → Skips name stream from
-unfolding fromIn
-judged-skips name stream j here from s w = rw w at s
+pub judged-covers : (name stream : List ℕ) (j : Judged) (here : Lo) (from until : ℕ) → Covered name stream j → j ≡ Judged.Whole here from until → Covers name stream from until
+judged-covers name stream j here from until s w = rw w at s
 
 -- ---- the refusals
 
@@ -113,8 +112,8 @@ module _ (stream name client : List ℕ) (type moment ordinal : ℕ) (t : Bool) 
         pub no-records : j ≡ Judged.Broken → Reply.Refused AskFault.Records ≡ askReply stream question ordinal
         no-records w = not-whole stream client j e question ordinal w ∙ sym decided
 
-        pub is-answered : (here : Lo) (from : ℕ) (r : Reply) → j ≡ Judged.Whole here from
+        pub is-answered : (here : Lo) (from until : ℕ) (r : Reply) → j ≡ Judged.Whole here from until
             → r ≡ answeredFrom type (map lower name) (loBytes here) moment ordinal (valueOr [] (decode stream)) → r ≡ askReply stream question ordinal
-        is-answered here from r w a = whole-reply stream client j e question ordinal here from r refl w a ∙ sym decided
+        is-answered here from until r w a = whole-reply stream client j e question ordinal here from until r refl w a ∙ sym decided
 
-pub ruleset ask·laws = (needs, judged-whole, judged-skips, no-name, no-moment, is-name, no-client, no-records, is-answered)
+pub ruleset ask·laws = (needs, judged-whole, judged-covers, no-name, no-moment, is-name, no-client, no-records, is-answered)

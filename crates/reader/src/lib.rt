@@ -45,6 +45,8 @@ pub fn ask(
     }
     match judge_and_locate(records, client, name) {
         Judged::Broken => Reply::Refused(AskFault::Records),
-        Judged::Whole(here, from) => { answer(records, name, qtype, here, moment, ordinal, from) }
+        Judged::Whole(here, from, until) => {
+            answer(records, name, qtype, here, moment, ordinal, from, until)
+        }
     }
 }

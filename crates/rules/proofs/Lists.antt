@@ -68,6 +68,12 @@ module _ {ℓ} {A B : Type ℓ} (f : A → B) where
   keep-map p q h [] = refl
   keep-map p q h (x ∷ xs) = rw (h x, keep-map p q h xs) (sym (pick-ap (map f) (q x) _ _))
 
+-- a test of one list behind another
+pub keep-append {ℓ} : {A : Type ℓ} (p : A → Bool) (xs ys : List A) → keep p (xs ++ ys) ≡ keep p xs ++ keep p ys
+unfolding keep
+keep-append p [] ys = refl
+keep-append p (x ∷ xs) ys = rw (keep-append p xs ys) (sym (pick-ap (λ k. k ++ keep p ys) (p x) _ _))
+
 -- ---- lengths
 
 pub length-join {ℓ κ} : {A : Type ℓ} {B : Type κ} (k : ℕ) (f : A → List B) (xs : List A) → ((x : A) → length (f x) ≤ k) → length (joinAll (map f xs)) ≤ length xs * k

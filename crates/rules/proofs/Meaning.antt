@@ -43,6 +43,11 @@ unfolding bytesOf joinAll sizeOfAll
 length-bytes [] = refl
 length-bytes (r ∷ rs) = simp length-append (omega (arith, size-is r, length-bytes rs))
 
+pub sizes-add : (xs ys : List Record) → sizeOfAll (xs ++ ys) ≡ sizeOfAll xs + sizeOfAll ys
+unfolding sizeOfAll
+sizes-add [] ys = omega arith
+sizes-add (x ∷ xs) ys = omega (arith, sizes-add xs ys)
+
 -- ---- an answer is one of the records
 
 first-all : {P : Placed → Type 0} {ls : List (List Placed)} → All (All P) ls → All P (firstFull ls)

@@ -32,7 +32,7 @@ module _ (bytes : List ℕ) where
   unfolding headOf fits pick
   no-lengths h = rw (lt-leb 8 (length bytes) h)
 
-  fitting : 8 ≤ length bytes → sizeAt bytes ≤ length bytes → fits bytes ≡ true
+  pub fitting : 8 ≤ length bytes → sizeAt bytes ≤ length bytes → fits bytes ≡ true
   unfolding fits
   fitting l h = rw (le-leb 8 (length bytes) l, le-leb (sizeAt bytes) (length bytes) h)
 
@@ -40,7 +40,7 @@ module _ (bytes : List ℕ) where
   unfolding fits
   not-fitting l h = rw (le-leb 8 (length bytes) l, lt-leb (sizeAt bytes) (length bytes) h)
 
-  fitted : fits bytes ≡ true → sizeAt bytes ≤ length bytes
+  pub fitted : fits bytes ≡ true → sizeAt bytes ≤ length bytes
   unfolding fits
   fitted q = leb-true (sizeAt bytes) (length bytes) (both-right (leb 8 (length bytes)) (leb (sizeAt bytes) (length bytes)) q)
 

@@ -1,20 +1,16 @@
-use Prim.Native.Nat.{_-_, _≤_}
-use mathlib.Core.Path.{_≡_}
+use Prim.Native.Nat.{_-_}
 use mathlib.Core.List.{map}
-use lib.ListN.{length, drop}
+use lib.ListN.{length}
 use Rattle.rules.specs.Lists.{lower}
-use Rattle.rules.specs.Reading.{decode}
-use Rattle.locate.specs.Locations.{locatedFrom, bestSeen}
-use Rattle.locate.specs.Skips.{SkipsOn}
-use Rattle.locate.proofs.Locating.{from·laws}
-use Rattle.locate.proofs.locate_from.Statement.{statement}
-use Rattle.locate.proofs.locate_from.Tie as tie
+use Rattle.locate.proofs.Locating.{Going, from·laws}
+use Rattle.locate.proofs.judge_from.Statement.{statement}
+use Rattle.locate.proofs.judge_from.Tie as tie
 
 abbrev Inv-loop : tie.InvT-loop
-Inv-loop stream client name from n located₀ at₀ located at = (at ≤ length stream) × (locatedFrom client (bestSeen located₀) (decode (drop from stream)) ≡ locatedFrom client (bestSeen located) (decode (drop at stream))) × SkipsOn (map lower name) stream from at
+Inv-loop stream client name n from located₀ until₀ at₀ located until at = Going client (map lower name) stream at₀ until₀ located from until at
 
 abbrev μ-loop : tie.MeasureT-loop
-μ-loop stream client name from n located₀ at₀ located at = length stream - at
+μ-loop stream client name n from located₀ until₀ at₀ located until at = length stream - at
 
 loop-holds : tie.Need-loop-holds Inv-loop μ-loop
 loop-holds c = search from·laws
@@ -49,12 +45,6 @@ enum-told c = search from·laws
 returns : tie.Need-returns Inv-loop μ-loop
 returns c = search from·laws
 
-enum-told-2 : tie.Need-enum-told-2 Inv-loop μ-loop
-enum-told-2 c = search from·laws
-
-returns-2 : tie.Need-returns-2 Inv-loop μ-loop
-returns-2 c = search from·laws
-
 enum-known-better : tie.Need-enum-known-better Inv-loop μ-loop
 enum-known-better c = search from·laws
 
@@ -64,11 +54,32 @@ loop-less c = search from·laws
 loop-again : tie.Need-loop-again Inv-loop μ-loop
 loop-again c = search from·laws
 
+enum-told-2 : tie.Need-enum-told-2 Inv-loop μ-loop
+enum-told-2 c = search from·laws
+
+returns-2 : tie.Need-returns-2 Inv-loop μ-loop
+returns-2 c = search from·laws
+
+loop-less-2 : tie.Need-loop-less-2 Inv-loop μ-loop
+loop-less-2 c = search from·laws
+
+loop-again-2 : tie.Need-loop-again-2 Inv-loop μ-loop
+loop-again-2 c = search from·laws
+
+enum-told-3 : tie.Need-enum-told-3 Inv-loop μ-loop
+enum-told-3 c = search from·laws
+
+loop-less-3 : tie.Need-loop-less-3 Inv-loop μ-loop
+loop-less-3 c = search from·laws
+
+loop-again-3 : tie.Need-loop-again-3 Inv-loop μ-loop
+loop-again-3 c = search from·laws
+
 returns-3 : tie.Need-returns-3 Inv-loop μ-loop
 returns-3 c = search from·laws
 
-pub locate-from-spec : {M : Type 1} → statement M
-locate-from-spec =
+pub judge-from-spec : {M : Type 1} → statement M
+judge-from-spec =
     tie.close
     (tie.spec
     Inv-loop
@@ -84,9 +95,14 @@ locate-from-spec =
     step-in-requires
     enum-told
     returns
-    enum-told-2
-    returns-2
     enum-known-better
     loop-less
     loop-again
+    enum-told-2
+    returns-2
+    loop-less-2
+    loop-again-2
+    enum-told-3
+    loop-less-3
+    loop-again-3
     returns-3)
