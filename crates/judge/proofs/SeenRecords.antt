@@ -1,5 +1,5 @@
 -- What the code answers of one record means what the rules read.
-use mathlib.Core.Path.{_≡_, refl, _∙_, sym}
+use mathlib.Core.Path.{_≡_, refl, ap, _∙_, sym}
 use mathlib.Core.Bool.{Bool, true, false, not, _||_}
 use mathlib.Core.List.{List, [], _∷_}
 use Prim.Native.Nat.{ℕ, _+_, _-_, _<_, _≤_}
@@ -7,6 +7,7 @@ use native.Mathlib.Omega.{arith}
 use borrow.Author.Needs.{needs}
 use borrow.Author.Tests.{eqb-true, ne-eqb, le-leb, lt-leb, lt-ltb, le-ltb, not-true, not-false}
 use lib.ListN.{length, take, drop, getD}
+use lib.Seq.{drop-cons}
 use lib.Dec.{eqb}
 use Rattle.rules.specs.declared.quantities.Lo.{Lo}
 use Rattle.rules.specs.declared.quantities.Shared.{Shared}
@@ -66,22 +67,15 @@ short-lo (a ∷ b ∷ c ∷ []) l h = refl
 short-lo (a ∷ b ∷ c ∷ d ∷ []) l h = refl
 short-lo (a ∷ b ∷ c ∷ d ∷ e ∷ r) l h = absurd (omega arith)
 
+behind-flag : (rdata : List ℕ) → 5 ≤ length rdata → drop 3 rdata ≡ getD rdata 3 0 ∷ getD rdata 4 0 ∷ drop 5 rdata
+behind-flag rdata l = drop-cons rdata 3 0 (omega arith) ∙ ap (λ (r : List ℕ). getD rdata 3 0 ∷ r) (drop-cons rdata 4 0 (omega arith))
+
 two : (rdata : List ℕ) → 5 ≤ length rdata → take 2 (drop 3 rdata) ≡ getD rdata 3 0 ∷ getD rdata 4 0 ∷ []
-two [] l = absurd (omega arith)
-two (a ∷ []) l = absurd (omega arith)
-two (a ∷ b ∷ []) l = absurd (omega arith)
-two (a ∷ b ∷ c ∷ []) l = absurd (omega arith)
-two (a ∷ b ∷ c ∷ d ∷ []) l = absurd (omega arith)
-two (a ∷ b ∷ c ∷ d ∷ e ∷ r) l = refl
+two rdata l = rw (behind-flag rdata l)
 
 pub code : (rdata : List ℕ) → 5 ≤ length rdata → loIn (drop 3 rdata) ≡ Lo.Code (getD rdata 3 0) (getD rdata 4 0)
 unfolding loIn
-code [] l = absurd (omega arith)
-code (a ∷ []) l = absurd (omega arith)
-code (a ∷ b ∷ []) l = absurd (omega arith)
-code (a ∷ b ∷ c ∷ []) l = absurd (omega arith)
-code (a ∷ b ∷ c ∷ d ∷ []) l = absurd (omega arith)
-code (a ∷ b ∷ c ∷ d ∷ e ∷ r) l = refl
+code rdata l = rw (behind-flag rdata l)
 
 module _ (rdata : List ℕ) where
   pub lo-short : 3 ≤ length rdata → length rdata < 5 → Flag.Broken ≡ loFlag rdata
