@@ -153,7 +153,14 @@ module _ (client name stream : List ℕ) (known : Reached) (best : Located) (fro
   pub on-all : length stream ≤ at → GoesOn stream known (record { located = best; from = from; until = until; at = at; whole = true })
   on-all h = record { onward = g .onward; ends = λ w. inl h }
 
-pub ruleset from·laws = (needs, begins, breaks, better-goes, candidate-goes, candidate-first, other-goes, all-passed, on-broken, on-first, on-all)
+-- the same of an answer that is equal
+pub as-reached : (client name stream : List ℕ) (x y : Reached) → x ≡ y → IsReached client name stream y → IsReached client name stream x
+as-reached client name stream x y e k = rw e k
+
+pub as-on : (stream : List ℕ) (known x y : Reached) → x ≡ y → GoesOn stream known y → GoesOn stream known x
+as-on stream known x y e k = rw e k
+
+pub ruleset from·laws = (needs, begins, breaks, better-goes, candidate-goes, candidate-first, other-goes, all-passed, on-broken, on-first, on-all, as-reached, as-on)
 
 -- ---- both parts
 
@@ -184,4 +191,4 @@ module _ (client name stream : List ℕ) (start first all : Reached) (k : IsReac
   pub all-covered : Covers name stream (all .from) (all .until)
   all-covered = covers name stream (all .from) (all .until) (all .at) (k .passed) (k .inside) all-read
 
-pub ruleset locate·laws = (needs, at-first, not-whole, all-located, all-covered)
+pub ruleset locate·laws = (needs, as-reached, at-first, not-whole, all-located, all-covered)

@@ -127,6 +127,18 @@ fn step_in(client: &[u8], name: &[u8], located: Located, key: &[u8], rdata: &[u8
     }
 }
 
+fn reached_at(located: Located, from: usize, until: usize, at: usize, whole: bool) -> Reached
+    ensures { λ r. ⌜ r ≡ record { located = located; from = from; until = until; at = at; whole = whole } ⌝ }
+{
+    Reached {
+        located,
+        from,
+        until,
+        at,
+        whole,
+    }
+}
+
 // Goes on from what is known of a stream: to its end, or up to the end of the first record that may answer, if none was found before. So the
 // loop itself need not keep where that one stands.
 fn judge_from(stream: &[u8], client: &[u8], name: &[u8], known: Reached) -> Reached
@@ -152,13 +164,7 @@ fn judge_from(stream: &[u8], client: &[u8], name: &[u8], known: Reached) -> Reac
             &stream[middle..next],
         ) {
             Step::Broken => {
-                return Reached {
-                    located,
-                    from,
-                    until,
-                    at,
-                    whole: false,
-                };
+                return reached_at(located, from, until, at, false);
             }
             Step::Better(better) => {
                 located = better;
@@ -166,13 +172,7 @@ fn judge_from(stream: &[u8], client: &[u8], name: &[u8], known: Reached) -> Reac
             }
             Step::Candidate => {
                 if until == 0 {
-                    return Reached {
-                        located,
-                        from: at,
-                        until: next,
-                        at: next,
-                        whole: true,
-                    };
+                    return reached_at(located, at, next, next, true);
                 }
                 until = next;
                 at = next;
@@ -182,13 +182,7 @@ fn judge_from(stream: &[u8], client: &[u8], name: &[u8], known: Reached) -> Reac
             }
         }
     }
-    Reached {
-        located,
-        from,
-        until,
-        at,
-        whole: true,
-    }
+    reached_at(located, from, until, at, true)
 }
 
 // Every record is read, also behind the last location: a stream is judged whole before anything of it is answered.
@@ -200,13 +194,7 @@ pub fn judge_and_locate(stream: &[u8], client: &[u8], name: &[u8]) -> Judged
         lo: Lo::Every,
         least: 0,
     };
-    let start = Reached {
-        located: nothing,
-        from: 0,
-        until: 0,
-        at: 0,
-        whole: true,
-    };
+    let start = reached_at(nothing, 0, 0, 0, true);
     let first = judge_from(stream, client, name, start);
     if !first.whole {
         return Judged::Broken;

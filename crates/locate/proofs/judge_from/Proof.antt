@@ -42,6 +42,9 @@ step-in-requires c κs = search from·laws
 enum-told : tie.Need-enum-told Inv-loop μ-loop
 enum-told c = search from·laws
 
+reached-at-requires : tie.Need-reached-at-requires Inv-loop μ-loop
+reached-at-requires c κs = search from·laws
+
 returns : tie.Need-returns Inv-loop μ-loop
 returns c = search from·laws
 
@@ -56,6 +59,9 @@ loop-again c = search from·laws
 
 enum-told-2 : tie.Need-enum-told-2 Inv-loop μ-loop
 enum-told-2 c = search from·laws
+
+reached-at-requires-2 : tie.Need-reached-at-requires-2 Inv-loop μ-loop
+reached-at-requires-2 c κs = search from·laws
 
 returns-2 : tie.Need-returns-2 Inv-loop μ-loop
 returns-2 c = search from·laws
@@ -74,6 +80,9 @@ loop-less-3 c = search from·laws
 
 loop-again-3 : tie.Need-loop-again-3 Inv-loop μ-loop
 loop-again-3 c = search from·laws
+
+reached-at-requires-3 : tie.Need-reached-at-requires-3 Inv-loop μ-loop
+reached-at-requires-3 c κs = search from·laws
 
 returns-3 : tie.Need-returns-3 Inv-loop μ-loop
 returns-3 c = search from·laws
@@ -94,15 +103,18 @@ judge-from-spec =
     part-step-in-end-2
     step-in-requires
     enum-told
+    reached-at-requires
     returns
     enum-known-better
     loop-less
     loop-again
     enum-told-2
+    reached-at-requires-2
     returns-2
     loop-less-2
     loop-again-2
     enum-told-3
     loop-less-3
     loop-again-3
+    reached-at-requires-3
     returns-3)
