@@ -55,7 +55,7 @@ module _ (s : List ℕ) (o : OctetsRead) (e : IsOctets s o) where
 
   counted : (g : Bool) → o .good ≡ g → o .count ≡ 4 → o .good ≡ true
   counted true q c = q
-  counted false q c = absurd (omega (arith, e .none q))
+  counted false q c = absurd (omega (arith, e .nothing q))
 
   pub four : (b : List ℕ) → o .count ≡ 4 → length b ≡ 16
       → IsAddress (dottedAddress s) (record { bytes = set (set (set (set b 0 (getD (o .bytes) 0 0)) 1 (getD (o .bytes) 1 0)) 2 (getD (o .bytes) 2 0)) 3 (getD (o .bytes) 3 0); len = 4 })

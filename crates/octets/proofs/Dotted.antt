@@ -39,7 +39,7 @@ refused s bytes l e =
     record {
       says = sym e;
       pieces = λ q. absurd (true≢false (sym q));
-      none = λ q. refl;
+      nothing = λ q. refl;
       few = omega arith;
       long = l;
     }
@@ -66,7 +66,7 @@ module _ (s bytes : List ℕ) (count start : ℕ) (e : Going octet octetByte one
               ones (take count bytes),
             );
         pieces = λ q. sym m;
-        none = λ q. absurd (true≢false q);
+        nothing = λ q. absurd (true≢false q);
         few = k;
         long = l;
       }

@@ -28,6 +28,6 @@ octetsRead r = pick (r .good) (some (take (r .count) (r .bytes))) none
 pub record IsOctets (text : List ℕ) (r : OctetsRead) : Type 0 where
   pub says : octetsRead r ≡ addressIf (leb (length (splitOn 46 text)) 4) octet octetByte (splitOn 46 text)
   pub pieces : r .good ≡ true → r .count ≡ length (splitOn 46 text)
-  pub none : r .good ≡ false → r .count ≡ 0
+  pub nothing : r .good ≡ false → r .count ≡ 0
   pub few : r .count ≤ 4
   pub long : length (r .bytes) ≡ 4

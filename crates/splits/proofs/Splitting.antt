@@ -19,7 +19,7 @@ use Rattle.rows.specs.declared.rows.Row.{Row}
 use Rattle.rows.proofs.Table.{count-most}
 use Rattle.splits.specs.declared.splits.Span.{Span}
 use Rattle.splits.specs.declared.splits.Parted.{Parted}
-use Rattle.splits.specs.Splits.{none, spanText, Inside, FieldsOf, IsParted, IsSplit}
+use Rattle.splits.specs.Splits.{emptySpan, spanText, Inside, FieldsOf, IsParted, IsSplit}
 
 -- ---- general
 
@@ -112,11 +112,11 @@ pub record State (s : List ℕ) (spans : List Span) (count start i : ℕ) : Type
 unfoldable pub Going : List ℕ → List Span → ℕ → ℕ → ℕ → Type 0
 Going s spans count start i = State s spans count start i
 
-inside-none : (n k : ℕ) → All (Inside n) (replicate k none)
+inside-none : (n k : ℕ) → All (Inside n) (replicate k emptySpan)
 inside-none n zero = nil
-inside-none n (suc k) = cons {x = none} (omega arith, omega arith) (inside-none n k)
+inside-none n (suc k) = cons {x = emptySpan} (omega arith, omega arith) (inside-none n k)
 
-pub begin : (s : List ℕ) → Going s (replicate 11 none) 0 0 0
+pub begin : (s : List ℕ) → Going s (replicate 11 emptySpan) 0 0 0
 unfolding spanText Going
 begin s = record { pieces = sym (glue-none (splitOn 58 s) (split-some 58 s)); behind = refl; inside = inside-none (length s) 11 }
 
@@ -187,7 +187,7 @@ module _ (s : List ℕ) (spans : List Span) (count start i most : ℕ) (going : 
       rw q (record {
         long = length-set spans count span ∙ long;
         inside = all-set count span (g .inside) (h, k);
-        texts = λ j m. sym (List·getD-map (spanText s) (set spans count span) j none) ∙ field-at l j;
+        texts = λ j m. sym (List·getD-map (spanText s) (set spans count span) j emptySpan) ∙ field-at l j;
       })
 
 -- the two ways out
@@ -202,16 +202,16 @@ pub ruleset parted·laws = (needs, begin, colon, other, full, end-fits, end-fiel
 -- ---- a field's text
 
 module _ (s : List ℕ) (spans : List Span) (i : ℕ) (f : FieldsOf s spans) where
-  within : Inside (length s) (getD spans i none)
-  within = all-getD i none (f .inside) (omega arith, omega arith)
+  within : Inside (length s) (getD spans i emptySpan)
+  within = all-getD i emptySpan (f .inside) (omega arith, omega arith)
 
-  pub starts : getD spans i none .0 ≤ getD spans i none .1
+  pub starts : getD spans i emptySpan .0 ≤ getD spans i emptySpan .1
   starts = within .0
 
-  pub ends : getD spans i none .1 ≤ length s
+  pub ends : getD spans i emptySpan .1 ≤ length s
   ends = within .1
 
-  pub text : i < 11 → take (getD spans i none .1 - getD spans i none .0) (drop (getD spans i none .0) s) ≡ fieldAt (splitOn 58 s) i
+  pub text : i < 11 → take (getD spans i emptySpan .1 - getD spans i emptySpan .0) (drop (getD spans i emptySpan .0) s) ≡ fieldAt (splitOn 58 s) i
   unfolding spanText
   text h = f .texts i h
 

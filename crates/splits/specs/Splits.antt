@@ -14,8 +14,8 @@ use Rattle.splits.specs.declared.splits.Span.{Span}
 use Rattle.splits.specs.declared.splits.Parted.{Parted}
 use Rattle.splits.specs.declared.splits.Fields.{Fields}
 
-abbrev pub none : Span
-none = record { 0 = 0; 1 = 0 }
+abbrev pub emptySpan : Span
+emptySpan = record { 0 = 0; 1 = 0 }
 
 -- the bytes of a span
 unfoldable pub spanText : List ℕ → Span → List ℕ
@@ -28,7 +28,7 @@ Inside n p = (p .0 ≤ p .1) × (p .1 ≤ n)
 pub record FieldsOf (s : List ℕ) (spans : List Span) : Type 0 where
   pub long : length spans ≡ 11
   pub inside : All (Inside (length s)) spans
-  pub texts : (i : ℕ) → i < 11 → spanText s (getD spans i none) ≡ fieldAt (splitOn 58 s) i
+  pub texts : (i : ℕ) → i < 11 → spanText s (getD spans i emptySpan) ≡ fieldAt (splitOn 58 s) i
 
 pub record IsParted (s : List ℕ) (most : ℕ) (r : Parted) : Type 0 where
   pub says : r .fits ≡ leb (length (splitOn 58 s)) most

@@ -77,9 +77,9 @@ fn parse_serial(text: &str) -> Result<u32, Failure> {
     })
 }
 
-/// Seconds of Unix time, modulo 2^32.
+/// Seconds of Unix time, modulo 2^32; 1 in place of 0, as tinydns-data has it.
 fn modification_serial(time: SystemTime) -> u32 {
-    match time.duration_since(UNIX_EPOCH) {
+    let seconds = match time.duration_since(UNIX_EPOCH) {
         Ok(since) => since.as_secs() as u32,
         Err(before) => {
             let before = before.duration();
@@ -87,7 +87,8 @@ fn modification_serial(time: SystemTime) -> u32 {
             let seconds = before.as_secs() + u64::from(before.subsec_nanos() > 0);
             (seconds as u32).wrapping_neg()
         }
-    }
+    };
+    seconds.max(1)
 }
 
 #[cfg(test)]
@@ -98,7 +99,8 @@ mod tests {
     #[test]
     fn serials_from_times() {
         let at = |seconds| UNIX_EPOCH + Duration::from_secs(seconds);
-        assert_eq!(modification_serial(at(0)), 0);
+        assert_eq!(modification_serial(at(0)), 1);
+        assert_eq!(modification_serial(at(1 << 32)), 1);
         assert_eq!(modification_serial(at(1_700_000_000)), 1_700_000_000);
         assert_eq!(modification_serial(at((1 << 32) + 5)), 5);
         let before = UNIX_EPOCH - Duration::from_millis(1500);

@@ -16,7 +16,8 @@ vahmizar: compile tinydns data and ask compiled records
 
   DATA      a source of at most 1,048,576 bytes
   N         serial number of SOA records without their own, 0 to 4294967295;
-            without --serial the modification time of DATA, modulo 2^32
+            without --serial the modification time of DATA, modulo 2^32,
+            or 1 where that is 0
   NAME      a domain name; \\. is a dot in a label, \\065 the byte 65
   TYPE      A, NS, CNAME, SOA, PTR, MX, TXT, AAAA, SRV and others by name,
             0 to 65535 or TYPE65 by number, ANY for all

@@ -3,7 +3,7 @@
 use std::fmt::Write;
 use std::path::Path;
 
-use vahmizar::{AskRefusal, Refusal};
+use vahmizar::{AskRefusal, Fault, Refusal};
 
 use crate::failure::Failure;
 
@@ -21,6 +21,10 @@ pub fn of_source(path: &Path, source: &[u8], refusal: Refusal) -> Failure {
     }
     let fault = refusal.fault;
     write!(message, ": refused {}: {}", fault.number(), fault.words()).expect("strings take all");
+    if fault == Fault::Name && refusal.field == 0 {
+        // Each field is good by itself, so the line shown wouldn't tell.
+        message += ": put together from the fields it is longer than 255 bytes";
+    }
     let text = text_at(source, refusal.line, refusal.field);
     if !text.is_empty() {
         message += "\n    ";
@@ -29,9 +33,13 @@ pub fn of_source(path: &Path, source: &[u8], refusal: Refusal) -> Failure {
     Failure::Refused(message)
 }
 
-/// Refused records or questions.
+/// Refused records, or a refused question.
 pub fn of_asking(path: &Path, refusal: AskRefusal) -> Failure {
-    Failure::Refused(format!("{}: {refusal}", path.display()))
+    let refused = match refusal {
+        AskRefusal::Records => path.display().to_string(),
+        _ => "question".to_owned(),
+    };
+    Failure::Refused(format!("{refused}: {refusal}"))
 }
 
 /// The field's text, or the whole line where the field is empty or none.

@@ -98,7 +98,7 @@ fn moments() {
     assert_eq!(at("now"), second);
     assert_eq!(at("-5"), "w.panic.mil 3600 A 192.0.2.234\n");
     let said = folder.fails(&["ask", "out", "w", "A", "--at", "8000000000000000"], 1);
-    assert_eq!(said, "out: refused 16: moment 2^63 or more\n");
+    assert_eq!(said, "question: refused 16: moment 2^63 or more\n");
 }
 
 #[test]

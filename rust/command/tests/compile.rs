@@ -212,3 +212,15 @@ fn help() {
         assert_eq!(folder.good(words), page, "{words:?}");
     }
 }
+
+#[test]
+fn a_name_that_is_put_together_too_long() {
+    let folder = Folder::new("put_together");
+    let label = |length| "n".repeat(length);
+    let name = [label(63), label(63), label(63), label(61)].join(".");
+    folder.write("data", format!("&{name}\n"));
+    let said = folder.fails(&["check", "data"], 1);
+    let words =
+        "data:1: refused 5: name: put together from the fields it is longer than 255 bytes\n";
+    assert!(said.starts_with(words), "{said}");
+}

@@ -36,3 +36,16 @@ fn the_readme_shows_what_the_command_prints() {
     }
     assert!(commands > 5, "the README shows a session");
 }
+
+#[test]
+fn the_readme_shows_what_lookup_prints() {
+    let root = Path::new(env!("CARGO_MANIFEST_DIR")).join("../..");
+    let readme = fs::read_to_string(root.join("README.md")).expect("README.md");
+    let stored = fs::read_to_string(root.join("crates/lookup/stdout")).expect("stored output");
+    let blocks = readme.split("```text\n").skip(1);
+    let shown = blocks.filter_map(|block| block.split("```").next());
+    let first = stored.lines().next().expect("a first line");
+    let of_lookup: Vec<_> = shown.filter(|block| block.starts_with(first)).collect();
+    assert_eq!(of_lookup.len(), 1, "the README shows it once");
+    assert!(stored.starts_with(of_lookup[0]), "{}", of_lookup[0]);
+}

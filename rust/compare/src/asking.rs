@@ -155,19 +155,22 @@ impl Call<'_> {
     }
 
     fn wrong_answer(&mut self, length: usize) -> Checked {
+        let name = Guarded::holding(&self.asked.name, self.random);
+        let client = Guarded::holding(&self.asked.client, self.random);
         let before = Guarded::new(length, self.random);
         let mut answer = before.clone();
         let returned = sys::ask(
             self.lent.inner(),
-            &self.asked.name,
+            name.inner(),
             self.asked.record_type,
-            &self.asked.client,
+            client.inner(),
             self.asked.moment,
             0,
             answer.inner_mut(),
         );
         self.tally.asked(returned);
-        if returned == 19 && answer == before {
+        let asked = name.inner() == self.asked.name && client.inner() == self.asked.client;
+        if returned == 19 && answer == before && asked {
             return Ok(());
         }
         let words = format!("an answer slice of {length} bytes: 19 wanted and nothing written");

@@ -104,18 +104,20 @@ impl Call<'_> {
 
     /// Compares a call whose answer slice has a wrong length.
     fn wrong_answer(&mut self, room: usize, length: usize) -> Checked {
+        let source = Guarded::holding(self.source, self.random);
         let before = Guarded::new(room, self.random);
         let mut out = before.clone();
         let answer_before = Guarded::new(length, self.random);
         let mut answer = answer_before.clone();
         let returned = sys::compile(
-            self.source,
+            source.inner(),
             self.serial,
             out.inner_mut(),
             answer.inner_mut(),
         );
         self.tally.compiled(returned);
-        if returned == 19 && out == before && answer == answer_before {
+        let kept = source.inner() == self.source && out == before;
+        if returned == 19 && kept && answer == answer_before {
             return Ok(());
         }
         let words = format!("an answer slice of {length} bytes: 19 wanted and nothing written");

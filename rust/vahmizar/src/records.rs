@@ -142,7 +142,9 @@ impl<'a> Records<'a> {
 
     /// All records of the answer to a question, in line order.
     ///
-    /// A refusal comes once, as the only item.
+    /// A refusal comes once, as the only item. Each step is a call of its own,
+    /// which judges the whole bytes anew: an answer of n records takes n + 1
+    /// times as long as one call.
     pub fn answers<'q>(&self, question: Question<'q>) -> Answers<'a, 'q> {
         Answers {
             records: *self,
