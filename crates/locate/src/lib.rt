@@ -1,4 +1,4 @@
-// The pass that judges a stream and finds the client's location.
+// The pass that judges a stream, and finds the client's location and the part of the stream in which records may answer.
 ghost use mathlib.Core.Path.{_≡_};
 ghost use mathlib.Core.List.{map};
 ghost use Prim.Native.Nat.{_≤_};

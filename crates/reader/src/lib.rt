@@ -1,4 +1,5 @@
-// Asking: the records of a compiled stream that answer a question, found in three passes over the stream itself.
+// Asking: the records of a compiled stream that answer a question, found in three passes: over the stream itself, and twice over the part of
+// it that may answer.
 ghost use mathlib.Core.Path.{_≡_};
 ghost use Rattle.rules.specs.Reading.{isClient, askReply};
 
