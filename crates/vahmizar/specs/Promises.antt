@@ -89,7 +89,7 @@ unfoldable pub outcomeNumbers : Outcome → List ℕ
 outcomeNumbers (Outcome.NotCompiled answer) = numbersOf answer
 outcomeNumbers (Outcome.Asked reply) = replyNumbers reply
 
--- Rules out: an answer out of the bytes that stood in `out` before; only the first record asked for, whatever the ordinal.
+-- Rules out: a question put to another part of `out` than was written; only the first record asked for, whatever the ordinal.
 pub record Serves (source : List ℕ) (serial : ℕ) (out : List ℕ) (q : Question) (ordinal : ℕ) (out′ : List ℕ) (r : Outcome) : Type 0 where
   pub outcome :
       r ≡ pick (isDone (compileAnswer source serial (length out) .fault)) (Outcome.Asked (askReply (compiledBytes source serial out) q ordinal))
