@@ -18,10 +18,11 @@ use Rattle.rules.proofs.Decoding.{wire-lower}
 use Rattle.stream.specs.declared.Span.{Span}
 use Rattle.stream.specs.Spans.{part, IsSpan}
 use Rattle.stream.proofs.Heads.{decode-nil}
-use Rattle.ranks.specs.Ranks.{rankOf, endsIn, largest, seenRank, rankIn}
+use Rattle.ranks.specs.Ranks.{roleRank, endsIn, largest, seenRank, rankIn}
+use Rattle.ranks.specs.declared.Role.{Role}
 use Rattle.ranks.proofs.KeyRanks.{unrelated}
 use Rattle.ranks.proofs.Related.{not-end}
-use Rattle.level.proofs.Levels.{most-rank}
+use Rattle.level.proofs.Controls.{most-role}
 
 -- ---- a place of whole records
 
@@ -60,49 +61,49 @@ rest-whole stream at span i e = whole-at stream at span i e .rest
 
 -- ---- the pass
 
-module _ (name here : List ℕ) (moment : ℕ) (stream : List ℕ) (best at all : ℕ)
-    (e : max best (largest (seenRank name here moment) (valueOr [] (decode (drop at stream)))) ≡ all) where
+module _ (role : Role) (name here : List ℕ) (moment : ℕ) (stream : List ℕ) (best at all : ℕ)
+    (e : max best (largest (seenRank role name here moment) (valueOr [] (decode (drop at stream)))) ≡ all) where
   module _ (w : isSome (decode (drop at stream)) ≡ true) (span : Span) (i : IsSpan stream at span) (found : ℕ)
-      (q : found ≡ rankIn name here moment (recordIn (take (span .middle - span .start) (drop (span .start) stream)) (take (span .next - span .middle) (drop (span .middle) stream)))) where
-    is-found : largest (seenRank name here moment) (valueOr [] (decode (drop at stream))) ≡ max found (largest (seenRank name here moment) (valueOr [] (decode (drop (span .next) stream))))
+      (q : found ≡ rankIn role name here moment (recordIn (take (span .middle - span .start) (drop (span .start) stream)) (take (span .next - span .middle) (drop (span .middle) stream)))) where
+    is-found : largest (seenRank role name here moment) (valueOr [] (decode (drop at stream))) ≡ max found (largest (seenRank role name here moment) (valueOr [] (decode (drop (span .next) stream))))
     unfolding largest rankIn
     is-found =
         let r = whole-at stream at span i w in
         rw (r .more, q, r .read)
 
-    pub larger : best < found → max found (largest (seenRank name here moment) (valueOr [] (decode (drop (span .next) stream)))) ≡ all
+    pub larger : best < found → max found (largest (seenRank role name here moment) (valueOr [] (decode (drop (span .next) stream)))) ≡ all
     larger h = omega (arith, is-found)
 
-    pub no-larger : found ≤ best → max best (largest (seenRank name here moment) (valueOr [] (decode (drop (span .next) stream)))) ≡ all
+    pub no-larger : found ≤ best → max best (largest (seenRank role name here moment) (valueOr [] (decode (drop (span .next) stream)))) ≡ all
     no-larger h = omega (arith, is-found)
 
   -- a record whose key isn't the end of the name
   pub passed-over : (w : isSome (decode (drop at stream)) ≡ true) (span : Span) (i : IsSpan stream at span) (t : Bool)
       → t ≡ endsIn name (take (span .middle - span .start) (drop (span .start) stream)) → not t ≡ true
-      → max best (largest (seenRank name here moment) (valueOr [] (decode (drop (span .next) stream)))) ≡ all
-  passed-over w span i t q n = no-larger w span i 0 (unrelated name here moment _ _ false (not-end name _ (sym q ∙ not-true t n)) refl) (omega arith)
+      → max best (largest (seenRank role name here moment) (valueOr [] (decode (drop (span .next) stream)))) ≡ all
+  passed-over w span i t q n = no-larger w span i 0 (unrelated role name here moment _ _ false (not-end name _ (sym q ∙ not-true t n)) refl) (omega arith)
 
   pub largest-found : length stream ≤ at → best ≡ all
   unfolding largest valueOr
   largest-found h =
-      let z : largest (seenRank name here moment) (valueOr [] (decode (drop at stream))) ≡ 0 = rw (drop-of-length-le stream h, decode-nil) in
+      let z : largest (seenRank role name here moment) (valueOr [] (decode (drop at stream))) ≡ 0 = rw (drop-of-length-le stream h, decode-nil) in
       omega arith
 
 -- ---- the most that a rank can be
 
-most-seen : (name here : List ℕ) (moment : ℕ) → Wire name → (rs : List Record) → largest (seenRank name here moment) rs ≤ 256
+most-seen : (role : Role) (name here : List ℕ) (moment : ℕ) → Wire name → (rs : List Record) → largest (seenRank role name here moment) rs ≤ 256
 unfolding largest seenRank
-most-seen name here moment t [] = omega arith
-most-seen name here moment t (r ∷ rs) = omega (arith, go (visible here moment r), most-seen name here moment t rs)
+most-seen role name here moment t [] = omega arith
+most-seen role name here moment t (r ∷ rs) = omega (arith, go (visible here moment r), most-seen role name here moment t rs)
   where
-    go : (b : Bool) → pick b (rankOf name r) 0 ≤ 256
-    go true = unfold pick in most-rank name t r
+    go : (b : Bool) → pick b (roleRank role name r) 0 ≤ 256
+    go true = unfold pick in most-role role name t r
     go false = unfold pick in omega arith
 
-pub most : (name here : List ℕ) (moment : ℕ) (stream : List ℕ) (best at all : ℕ) → isWire name ≡ true
-    → max best (largest (seenRank (map lower name) here moment) (valueOr [] (decode (drop at stream)))) ≡ all → best ≡ 256 → best ≡ all
-most name here moment stream best at all w e h =
-    omega (arith, most-seen (map lower name) here moment (wire-lower name (rw w tt)) (valueOr [] (decode (drop at stream))))
+pub most : (role : Role) (name here : List ℕ) (moment : ℕ) (stream : List ℕ) (best at all : ℕ) → isWire name ≡ true
+    → max best (largest (seenRank role (map lower name) here moment) (valueOr [] (decode (drop at stream)))) ≡ all → best ≡ 256 → best ≡ all
+most role name here moment stream best at all w e h =
+    omega (arith, most-seen role (map lower name) here moment (wire-lower name (rw w tt)) (valueOr [] (decode (drop at stream))))
 
 pub none-yet : (n : ℕ) → max 0 n ≡ n
 none-yet n = omega arith

@@ -1,4 +1,4 @@
-// The pass that finds the level of a question: the largest rank of the records that the client sees.
+// The pass that finds the largest rank of the records that the client sees: the level of a question, or the length of its control name.
 ghost use mathlib.Core.Path.{_≡_};
 ghost use mathlib.Core.Bool.{true};
 ghost use mathlib.Core.List.{[], map};
@@ -9,6 +9,7 @@ ghost use Rattle.rules.specs.Names.{isWire};
 ghost use Rattle.rules.specs.Records.{loBytes};
 ghost use Rattle.rules.specs.Reading.{decode};
 ghost use Rattle.ranks.specs.Ranks.{seenRank, largest};
+use ranks::Role;
 use ranks::is_end;
 use ranks::rank_in;
 use rules::quantities::Lo;
@@ -17,11 +18,18 @@ use stream::span_at;
 
 // The largest rank in a stream of whole records from a place on. None is above that of the name's own records. Most records are ruled out by
 // the end of the name alone, without a call.
-pub fn best_rank(stream: &[u8], name: &[u8], here: Lo, moment: Moment, from: usize) -> usize
+pub fn best_rank(
+    stream: &[u8],
+    name: &[u8],
+    role: Role,
+    here: Lo,
+    moment: Moment,
+    from: usize,
+) -> usize
     requires { ⌜ isWire (now name) ≡ true ⌝ }
     requires { ⌜ from ≤ length (now stream) ⌝ }
     requires { ⌜ isSome (decode (drop from (now stream))) ≡ true ⌝ }
-    ensures { λ r. ⌜ r ≡ largest (seenRank (map lower (now (name .entry))) (loBytes here) (moment .0)) (valueOr [] (decode (drop from (now (stream .entry))))) ⌝ }
+    ensures { λ r. ⌜ r ≡ largest (seenRank role (map lower (now (name .entry))) (loBytes here) (moment .0)) (valueOr [] (decode (drop from (now (stream .entry))))) ⌝ }
 {
     let n = stream.len();
     let mut best: usize = 0;
@@ -39,6 +47,7 @@ pub fn best_rank(stream: &[u8], name: &[u8], here: Lo, moment: Moment, from: usi
         } else {
             let found = rank_in(
                 name,
+                role,
                 here,
                 moment,
                 &stream[start..middle],

@@ -1,14 +1,14 @@
--- The pass that judges a stream, finds the client's location, and the part in which records may answer.
+-- The pass that judges a stream, finds the client's location, and the parts in which records may answer or make a control name.
 use mathlib.Core.Path.{_≡_, refl, ap, _∙_, sym}
-use mathlib.Core.Bool.{Bool, true, false, not}
-use mathlib.Core.Logic.{inl, inr, ⊎-elim}
+use mathlib.Core.Bool.{Bool, true, false}
 use mathlib.Core.List.{List}
 use mathlib.Core.Option.{Option, none, some}
 use Prim.Native.Nat.{ℕ, _-_, _≤_}
 use native.Mathlib.Omega.{arith}
 use borrow.Author.Needs.{needs}
-use borrow.Author.Tests.{not-true, not-false}
+use borrow.Author.Tests.{eq-eqb, ne-eqb, eqb-true, eqb-false}
 use lib.ListN.{length, take, drop, drop-of-length-le}
+use lib.Dec.{eqb}
 use Rattle.rules.specs.declared.quantities.Lo.{Lo}
 use Rattle.rules.specs.Lists.{pick}
 use Rattle.rules.specs.Records.{Record, location, resource, loBytes}
@@ -18,151 +18,110 @@ use Rattle.rules.specs.Reading.{recordIn, ontoRecords, decode}
 use Rattle.stream.specs.declared.Span.{Span}
 use Rattle.stream.specs.Spans.{part, IsSpan}
 use Rattle.stream.proofs.Heads.{decode-nil}
+use Rattle.ranks.specs.Ranks.{endsIn}
+use Rattle.ranks.specs.declared.Role.{Role}
 use Rattle.locate.specs.declared.Located.{Located}
+use Rattle.locate.specs.declared.Part.{Part}
 use Rattle.locate.specs.declared.Step.{Step}
-use Rattle.locate.specs.declared.Reached.{Reached}
 use Rattle.locate.specs.declared.Judged.{Judged}
-use Rattle.locate.specs.Covers.{Covers}
+use Rattle.locate.specs.Covers.{Covers, Covered}
+use Rattle.locate.specs.Grown.{grownTo}
 use Rattle.locate.specs.Locations.{locatedIn, locatedFrom, bestSeen, judgedLo}
-use Rattle.locate.specs.Reaches.{Passed, IsReached, GoesOn}
-use Rattle.locate.specs.Steps.{malformed, located, candidate, other, mayAnswer, stepSeen, stepOf}
-use Rattle.locate.proofs.Covering.{at-start, not-located, passed-location, passed-other, found-first, found-more, covers}
+use Rattle.locate.specs.Reaches.{Passed}
+use Rattle.locate.specs.Steps.{malformed, located, seen, mayAnswer, mayControl, relatedStep, stepSeen, stepOf}
+use Rattle.locate.proofs.Covering.{Read, NoRank, located-rank, unended, no-answer, no-control, at-start, passed, found-first, found-more, covers}
 
--- ---- the location, one record further
+-- ---- one record
+
+not-located : (t a b : Bool) (best : Best) → pick t (seen a b) (seen false false) ≡ located best → ⊥
+unfolding pick
+not-located true a b best e = let z : _≡_ {A = ℕ} 0 1 = cc in omega arith
+not-located false a b best e = let z : _≡_ {A = ℕ} 0 1 = cc in omega arith
+
+not-malformed : (t a b : Bool) → pick t (seen a b) (seen false false) ≡ malformed → ⊥
+unfolding pick
+not-malformed true a b e = let z : _≡_ {A = ℕ} 0 1 = cc in omega arith
+not-malformed false a b e = let z : _≡_ {A = ℕ} 0 1 = cc in omega arith
 
 module _ (client name : List ℕ) (best : Best) (key : List ℕ) where
   step-none : (o : Option Record) → stepOf client name best key o ≡ malformed → o ≡ none
-  unfolding stepOf
+  unfolding stepOf relatedStep
   step-none none e = refl
   step-none (some (location prefix lo)) e = let z : _≡_ {A = ℕ} 0 1 = cc in absurd (omega arith)
-  step-none (some (resource owner type lo ttl time rdata)) e = go (mayAnswer name key (wild owner)) e
-    where
-      go : (t : Bool) → pick t candidate other ≡ malformed → some (resource owner type lo ttl time rdata) ≡ none
-      go true q = unfold pick in let z : _≡_ {A = ℕ} 0 1 = cc in absurd (omega arith)
-      go false q = unfold pick in let z : _≡_ {A = ℕ} 0 1 = cc in absurd (omega arith)
+  step-none (some (resource owner type lo ttl time rdata)) e = absurd (not-malformed (endsIn name key) _ _ e)
 
   step-better : (next : Best) (o : Option Record) (ds : Option (List Record)) → stepOf client name best key o ≡ located next
       → locatedFrom client best (ontoRecords o ds) ≡ locatedFrom client next ds
-  unfolding stepOf locatedFrom ontoRecords bestOf
+  unfolding stepOf relatedStep locatedFrom ontoRecords bestOf
   step-better next none ds e = let z : _≡_ {A = ℕ} 0 1 = cc in absurd (omega arith)
   step-better next (some (location prefix lo)) none e = refl
   step-better next (some (location prefix lo)) (some rs) e =
       let q : better client best (location prefix lo) ≡ next = cc in
       ap (λ (b : Best). some (bestOf client b rs .lo)) q
-  step-better next (some (resource owner type lo ttl time rdata)) ds e = absurd (not-located (mayAnswer name key (wild owner)) next e)
+  step-better next (some (resource owner type lo ttl time rdata)) ds e = absurd (not-located (endsIn name key) _ _ next e)
 
   -- a record with an owner leaves the location as it is
-  step-same : (t : Bool) (o : Option Record) (ds : Option (List Record)) → stepOf client name best key o ≡ pick t candidate other → locatedFrom client best (ontoRecords o ds) ≡ locatedFrom client best ds
+  step-same : (a b : Bool) (o : Option Record) (ds : Option (List Record)) → stepOf client name best key o ≡ seen a b → locatedFrom client best (ontoRecords o ds) ≡ locatedFrom client best ds
   unfolding stepOf locatedFrom ontoRecords bestOf better
-  step-same t none ds e = absurd (go t e)
+  step-same a b none ds e = let z : _≡_ {A = ℕ} 0 1 = cc in absurd (omega arith)
+  step-same a b (some (location prefix lo)) ds e = let z : _≡_ {A = ℕ} 0 1 = cc in absurd (omega arith)
+  step-same a b (some (resource owner type lo ttl time rdata)) none e = refl
+  step-same a b (some (resource owner type lo ttl time rdata)) (some rs) e = refl
+
+-- what was met: a record, and in which roles it has no rank
+record Met (name key rdata : List ℕ) (a b : Bool) : Type 0 where
+  read : Read name key rdata
+  level : a ≡ false → NoRank name key rdata Role.Level
+  control : b ≡ false → NoRank name key rdata Role.Control
+  zone : b ≡ false → NoRank name key rdata Role.Zone
+
+module _ (client name : List ℕ) (best : Best) (key rdata : List ℕ) where
+  met-location : (next : Best) → stepOf client name best key (recordIn key rdata) ≡ located next → Met name key rdata false false
+  met-location next e = go (recordIn key rdata) refl e
     where
-      go : (t : Bool) → malformed ≡ pick t candidate other → ⊥
-      go true q = unfold pick in let z : _≡_ {A = ℕ} 0 1 = cc in omega arith
-      go false q = unfold pick in let z : _≡_ {A = ℕ} 0 1 = cc in omega arith
-  step-same t (some (location prefix lo)) ds e = absurd (not-located t (better client best (location prefix lo)) (sym e))
-  step-same t (some (resource owner type lo ttl time rdata)) none e = refl
-  step-same t (some (resource owner type lo ttl time rdata)) (some rs) e = refl
+      go : (o : Option Record) → recordIn key rdata ≡ o → stepOf client name best key o ≡ located next → Met name key rdata false false
+      go none q e = unfold stepOf in (let z : _≡_ {A = ℕ} 0 1 = cc in absurd (omega arith))
+      go (some (location prefix lo)) q e = record {
+        read = record { rec = location prefix lo; is = q };
+        level = λ z. located-rank name key rdata Role.Level prefix lo q;
+        control = λ z. located-rank name key rdata Role.Control prefix lo q;
+        zone = λ z. located-rank name key rdata Role.Zone prefix lo q;
+      }
+      go (some (resource owner type lo ttl time rd)) q e = absurd (unfold stepOf relatedStep in not-located (endsIn name key) _ _ next e)
+
+  met : (a b : Bool) → stepOf client name best key (recordIn key rdata) ≡ seen a b → Met name key rdata a b
+  met a b e = go (recordIn key rdata) refl e
+    where
+      go : (o : Option Record) → recordIn key rdata ≡ o → stepOf client name best key o ≡ seen a b → Met name key rdata a b
+      go none q e = unfold stepOf in (let z : _≡_ {A = ℕ} 0 1 = cc in absurd (omega arith))
+      go (some (location prefix lo)) q e = unfold stepOf in (let z : _≡_ {A = ℕ} 0 1 = cc in absurd (omega arith))
+      go (some (resource owner type lo ttl time rd)) q e = by (endsIn name key) refl (unfold stepOf relatedStep in e)
+        where
+          by : (t : Bool) → endsIn name key ≡ t → pick t (seen (mayAnswer name key (wild owner)) (mayControl (wild owner) type)) (seen false false) ≡ seen a b → Met name key rdata a b
+          by true u p = unfold pick in
+              let x : mayAnswer name key (wild owner) ≡ a = cc in
+              let y : mayControl (wild owner) type ≡ b = cc in
+              record {
+                read = record { rec = resource owner type lo ttl time rd; is = q };
+                level = λ z. no-answer name key rdata owner lo rd type ttl time q (x ∙ z);
+                control = λ z. no-control name key rdata owner lo rd type ttl time q (y ∙ z) .0;
+                zone = λ z. no-control name key rdata owner lo rd type ttl time q (y ∙ z) .1;
+              }
+          by false u p = record {
+            read = record { rec = resource owner type lo ttl time rd; is = q };
+            level = λ z. unended name key rdata owner lo rd type ttl time q Role.Level u;
+            control = λ z. unended name key rdata owner lo rd type ttl time q Role.Control u;
+            zone = λ z. unended name key rdata owner lo rd type ttl time q Role.Zone u;
+          }
 
 -- ---- the pass
 
--- from where it began, and what was found before
-pub record Going (client name stream : List ℕ) (began found : ℕ) (best : Located) (from until at : ℕ) : Type 0 where
+pub record Going (client name stream : List ℕ) (best : Located) (level control : Part) (at : ℕ) : Type 0 where
   pub inside : at ≤ length stream
-  pub onward : began ≤ at
-  pub grown : found ≤ until
   pub located-there : locatedIn client (decode stream) ≡ locatedFrom client (bestSeen best) (decode (drop at stream))
-  pub passed : Passed name stream from until at
-
-pub begins : (client name stream : List ℕ) (known : Reached) → IsReached client name stream known
-    → Going client name stream (known .at) (known .until) (known .located) (known .from) (known .until) (known .at)
-begins client name stream known k = record { inside = k .inside; onward = omega arith; grown = omega arith; located-there = k .located; passed = k .passed }
-
-module _ (client name stream : List ℕ) (began found : ℕ) (best : Located) (from until at : ℕ) (g : Going client name stream began found best from until at) where
-  module _ (span : Span) (i : IsSpan stream at span) (r : Step)
-      (q : stepSeen r ≡ stepOf client name (bestSeen best) (take (span .middle - span .start) (drop (span .start) stream))
-      (recordIn (take (span .middle - span .start) (drop (span .start) stream)) (take (span .next - span .middle) (drop (span .middle) stream)))) where
-    is-step : (x : Step) → r ≡ x → stepOf client name (bestSeen best) (take (span .middle - span .start) (drop (span .start) stream))
-        (recordIn (take (span .middle - span .start) (drop (span .start) stream)) (take (span .next - span .middle) (drop (span .middle) stream))) ≡ stepSeen x
-    is-step x p = sym q ∙ ap stepSeen p
-
-    pub breaks : r ≡ Step.Broken → IsReached client name stream (record { located = best; from = from; until = until; at = at; whole = false })
-    unfolding part ontoRecords stepSeen
-    breaks b = record {
-      inside = g .inside;
-      located = g .located-there;
-      passed = g .passed;
-      broken = λ w. i .says ∙ rw (step-none client name (bestSeen best) _ _ (is-step Step.Broken b));
-    }
-
-    pub better-goes : (next : Located) → r ≡ Step.Better next → Going client name stream began found next from until (span .next)
-    unfolding part stepSeen
-    better-goes next b = record {
-      inside = i .inside;
-      onward = omega (arith, g .onward, i .goes-on);
-      grown = g .grown;
-      located-there = (rw (i .says) at (g .located-there)) ∙ step-better client name (bestSeen best) _ (bestSeen next) _ (decode (drop (span .next) stream)) (is-step (Step.Better next) b);
-      passed = passed-location name stream client (bestSeen best) from until at (g .passed) span i (bestSeen next) (is-step (Step.Better next) b);
-    }
-
-    same : (t : Bool) → stepOf client name (bestSeen best) (take (span .middle - span .start) (drop (span .start) stream))
-        (recordIn (take (span .middle - span .start) (drop (span .start) stream)) (take (span .next - span .middle) (drop (span .middle) stream))) ≡ pick t candidate other
-        → locatedIn client (decode stream) ≡ locatedFrom client (bestSeen best) (decode (drop (span .next) stream))
-    unfolding part
-    same t q = (rw (i .says) at (g .located-there)) ∙ step-same client name (bestSeen best) _ t _ (decode (drop (span .next) stream)) q
-
-    pub candidate-goes : r ≡ Step.Candidate → Going client name stream began found best from (span .next) (span .next)
-    unfolding stepSeen pick
-    candidate-goes b = record {
-      inside = i .inside;
-      onward = omega (arith, g .onward, i .goes-on);
-      grown = omega (arith, g .grown, g .passed .reached, i .goes-on);
-      located-there = same true (is-step Step.Candidate b);
-      passed = found-more name stream client (bestSeen best) from until at (g .passed) span i (is-step Step.Candidate b);
-    }
-
-    pub candidate-first : r ≡ Step.Candidate → until ≡ 0 → IsReached client name stream (record { located = best; from = at; until = span .next; at = span .next; whole = true })
-    unfolding stepSeen pick
-    candidate-first b z = record {
-      inside = i .inside;
-      located = same true (is-step Step.Candidate b);
-      passed = found-first name stream client (bestSeen best) from until at (g .passed) span i (is-step Step.Candidate b) z;
-      broken = λ w. let z : _≡_ {A = ℕ} 0 1 = cc in absurd (omega arith);
-    }
-
-    pub other-goes : r ≡ Step.Other → Going client name stream began found best from until (span .next)
-    unfolding stepSeen pick
-    other-goes b = record {
-      inside = i .inside;
-      onward = omega (arith, g .onward, i .goes-on);
-      grown = g .grown;
-      located-there = same false (is-step Step.Other b);
-      passed = passed-other name stream client (bestSeen best) from until at (g .passed) span i (is-step Step.Other b);
-    }
-
-  pub all-passed : IsReached client name stream (record { located = best; from = from; until = until; at = at; whole = true })
-  all-passed = record { inside = g .inside; located = g .located-there; passed = g .passed; broken = λ w. let z : _≡_ {A = ℕ} 0 1 = cc in absurd (omega arith) }
-
--- how far it went
-module _ (client name stream : List ℕ) (known : Reached) (best : Located) (from until at : ℕ) (g : Going client name stream (known .at) (known .until) best from until at) where
-  pub on-broken : GoesOn stream known (record { located = best; from = from; until = until; at = at; whole = false })
-  on-broken = record { onward = g .onward; ends = λ w. let z : _≡_ {A = ℕ} 0 1 = cc in absurd (omega arith) }
-
-  pub on-first : (span : Span) → IsSpan stream at span → until ≡ 0 → GoesOn stream known (record { located = best; from = at; until = span .next; at = span .next; whole = true })
-  on-first span i z = record { onward = omega (arith, g .onward, i .goes-on); ends = λ w. inr (omega (arith, g .grown), omega (arith, i .goes-on)) }
-
-  pub on-all : length stream ≤ at → GoesOn stream known (record { located = best; from = from; until = until; at = at; whole = true })
-  on-all h = record { onward = g .onward; ends = λ w. inl h }
-
--- the same of an answer that is equal
-pub as-reached : (client name stream : List ℕ) (x y : Reached) → x ≡ y → IsReached client name stream y → IsReached client name stream x
-as-reached client name stream x y e k = rw e k
-
-pub as-on : (stream : List ℕ) (known x y : Reached) → x ≡ y → GoesOn stream known y → GoesOn stream known x
-as-on stream known x y e k = rw e k
-
-pub ruleset from·laws = (needs, begins, breaks, better-goes, candidate-goes, candidate-first, other-goes, all-passed, on-broken, on-first, on-all, as-reached, as-on)
-
--- ---- both parts
+  pub level-passed : Passed Role.Level name stream (level .from) (level .until) at
+  pub control-passed : Passed Role.Control name stream (control .from) (control .until) at
+  pub zone-passed : Passed Role.Zone name stream (control .from) (control .until) at
 
 from-start : (client stream : List ℕ) → locatedIn client (decode stream) ≡ locatedFrom client (bestSeen (record { lo = Lo.Every; least = 0 })) (decode (drop 0 stream))
 unfolding bestSeen
@@ -172,23 +131,128 @@ from-start client stream = go (decode stream)
     go none = unfold locatedFrom locatedIn in refl
     go (some rs) = unfold locatedFrom locatedIn locationOf loBytes in refl
 
-pub at-first : (client name stream : List ℕ) → IsReached client name stream (record { located = record { lo = Lo.Every; least = 0 }; from = 0; until = 0; at = 0; whole = true })
-at-first client name stream = record { inside = omega arith; located = from-start client stream; passed = at-start name stream; broken = λ w. let z : _≡_ {A = ℕ} 0 1 = cc in absurd (omega arith) }
+pub at-first : (client name stream : List ℕ) → Going client name stream (record { lo = Lo.Every; least = 0 }) (record { from = 0; until = 0 }) (record { from = 0; until = 0 }) 0
+at-first client name stream = record {
+  inside = omega arith;
+  located-there = from-start client stream;
+  level-passed = at-start Role.Level name stream;
+  control-passed = at-start Role.Control name stream;
+  zone-passed = at-start Role.Zone name stream;
+}
 
-pub not-whole : (client name stream : List ℕ) (r : Reached) → IsReached client name stream r → not (r .whole) ≡ true → judgedLo Judged.Broken ≡ locatedIn client (decode stream)
-unfolding judgedLo locatedFrom
-not-whole client name stream r k n = sym (k .located ∙ rw (k .broken (not-true (r .whole) n)))
+module _ (client name stream : List ℕ) (best : Located) (level control : Part) (at : ℕ) (g : Going client name stream best level control at) (span : Span) (i : IsSpan stream at span) where
+  abbrev key : List ℕ
+  key = take (span .middle - span .start) (drop (span .start) stream)
 
-module _ (client name stream : List ℕ) (start first all : Reached) (k : IsReached client name stream all) (f : GoesOn stream start first) (g : GoesOn stream first all)
-    (n : not (first .whole) ≡ false) (m : not (all .whole) ≡ false) where
-  all-read : length stream ≤ all .at
-  all-read = ⊎-elim (λ h. h) (λ z. ⊎-elim (λ h. omega (arith, g .onward)) (λ y. absurd (omega (arith, z .0, y .1))) (f .ends (not-false (first .whole) n))) (g .ends (not-false (all .whole) m))
+  abbrev rdata : List ℕ
+  rdata = take (span .next - span .middle) (drop (span .middle) stream)
 
-  pub all-located : judgedLo (Judged.Whole (all .located .lo) (all .from) (all .until)) ≡ locatedIn client (decode stream)
+  grows : (role : Role) (p q : Part) → Passed role name stream (p .from) (p .until) at → Read name key rdata → q ≡ grownTo p at (span .next) → Passed role name stream (q .from) (q .until) (span .next)
+  unfolding grownTo
+  grows role p q h o e = rw e (by (eqb (p .until) 0) refl)
+    where
+      by : (b : Bool) → eqb (p .until) 0 ≡ b
+          → Passed role name stream (pick {A = Part} b (record { from = at; until = span .next }) (record { from = p .from; until = span .next }) .from) (pick {A = Part} b (record { from = at; until = span .next }) (record { from = p .from; until = span .next }) .until) (span .next)
+      by true z = unfold pick in found-first role name stream (p .from) (p .until) at h span i o (eqb-true (p .until) 0 z)
+      by false z = unfold pick in found-more role name stream (p .from) (p .until) at h span i o
+
+  stays : (role : Role) (p : Part) → Passed role name stream (p .from) (p .until) at → Read name key rdata → NoRank name key rdata role → Passed role name stream (p .from) (p .until) (span .next)
+  stays role p h o z = passed role name stream (p .from) (p .until) at h span i o z
+
+  module _ (r : Step) (q : stepSeen r ≡ stepOf client name (bestSeen best) key (recordIn key rdata)) where
+    is-step : (x : Step) → r ≡ x → stepOf client name (bestSeen best) key (recordIn key rdata) ≡ stepSeen x
+    is-step x p = sym q ∙ ap stepSeen p
+
+    same : (a b : Bool) → stepOf client name (bestSeen best) key (recordIn key rdata) ≡ seen a b → locatedIn client (decode stream) ≡ locatedFrom client (bestSeen best) (decode (drop (span .next) stream))
+    unfolding part
+    same a b e = (rw (i .says) at (g .located-there)) ∙ step-same client name (bestSeen best) key a b _ (decode (drop (span .next) stream)) e
+
+    pub breaks : r ≡ Step.Broken → judgedLo Judged.Broken ≡ locatedIn client (decode stream)
+    unfolding part ontoRecords stepSeen judgedLo locatedFrom
+    breaks b = sym (g .located-there ∙ rw (i .says, step-none client name (bestSeen best) key _ (is-step Step.Broken b)))
+
+    pub better-goes : (next : Located) → r ≡ Step.Better next → Going client name stream next level control (span .next)
+    unfolding part stepSeen
+    better-goes next b =
+        let m = met-location client name (bestSeen best) key rdata (bestSeen next) (is-step (Step.Better next) b) in
+        record {
+          inside = i .inside;
+          located-there = (rw (i .says) at (g .located-there)) ∙ step-better client name (bestSeen best) key (bestSeen next) _ (decode (drop (span .next) stream)) (is-step (Step.Better next) b);
+          level-passed = stays Role.Level level (g .level-passed) (m .read) (m .level refl);
+          control-passed = stays Role.Control control (g .control-passed) (m .read) (m .control refl);
+          zone-passed = stays Role.Zone control (g .zone-passed) (m .read) (m .zone refl);
+        }
+
+    pub both-goes : (l c : Part) → r ≡ Step.Both → l ≡ grownTo level at (span .next) → c ≡ grownTo control at (span .next) → Going client name stream best l c (span .next)
+    unfolding stepSeen
+    both-goes l c b x y =
+        let m = met client name (bestSeen best) key rdata true true (is-step Step.Both b) in
+        record {
+          inside = i .inside;
+          located-there = same true true (is-step Step.Both b);
+          level-passed = grows Role.Level level l (g .level-passed) (m .read) x;
+          control-passed = grows Role.Control control c (g .control-passed) (m .read) y;
+          zone-passed = grows Role.Zone control c (g .zone-passed) (m .read) y;
+        }
+
+    pub candidate-goes : (l : Part) → r ≡ Step.Candidate → l ≡ grownTo level at (span .next) → Going client name stream best l control (span .next)
+    unfolding stepSeen
+    candidate-goes l b x =
+        let m = met client name (bestSeen best) key rdata true false (is-step Step.Candidate b) in
+        record {
+          inside = i .inside;
+          located-there = same true false (is-step Step.Candidate b);
+          level-passed = grows Role.Level level l (g .level-passed) (m .read) x;
+          control-passed = stays Role.Control control (g .control-passed) (m .read) (m .control refl);
+          zone-passed = stays Role.Zone control (g .zone-passed) (m .read) (m .zone refl);
+        }
+
+    pub control-goes : (c : Part) → r ≡ Step.Control → c ≡ grownTo control at (span .next) → Going client name stream best level c (span .next)
+    unfolding stepSeen
+    control-goes c b y =
+        let m = met client name (bestSeen best) key rdata false true (is-step Step.Control b) in
+        record {
+          inside = i .inside;
+          located-there = same false true (is-step Step.Control b);
+          level-passed = stays Role.Level level (g .level-passed) (m .read) (m .level refl);
+          control-passed = grows Role.Control control c (g .control-passed) (m .read) y;
+          zone-passed = grows Role.Zone control c (g .zone-passed) (m .read) y;
+        }
+
+    pub other-goes : r ≡ Step.Other → Going client name stream best level control (span .next)
+    unfolding stepSeen
+    other-goes b =
+        let m = met client name (bestSeen best) key rdata false false (is-step Step.Other b) in
+        record {
+          inside = i .inside;
+          located-there = same false false (is-step Step.Other b);
+          level-passed = stays Role.Level level (g .level-passed) (m .read) (m .level refl);
+          control-passed = stays Role.Control control (g .control-passed) (m .read) (m .control refl);
+          zone-passed = stays Role.Zone control (g .zone-passed) (m .read) (m .zone refl);
+        }
+
+module _ (client name stream : List ℕ) (best : Located) (level control : Part) (at : ℕ) (g : Going client name stream best level control at) (h : length stream ≤ at) where
+  pub all-located : judgedLo (Judged.Whole (best .lo) (level .from) (level .until) (control .from) (control .until)) ≡ locatedIn client (decode stream)
   unfolding judgedLo locatedFrom bestOf bestSeen
-  all-located = sym (k .located ∙ rw (drop-of-length-le stream all-read, decode-nil))
+  all-located = sym (g .located-there ∙ rw (drop-of-length-le stream h, decode-nil))
 
-  pub all-covered : Covers name stream (all .from) (all .until)
-  all-covered = covers name stream (all .from) (all .until) (all .at) (k .passed) (k .inside) all-read
+  pub all-covered : Covered name stream (Judged.Whole (best .lo) (level .from) (level .until) (control .from) (control .until))
+  all-covered = (
+    covers Role.Level name stream (level .from) (level .until) at (g .level-passed) (g .inside) h,
+    covers Role.Control name stream (control .from) (control .until) at (g .control-passed) (g .inside) h,
+    covers Role.Zone name stream (control .from) (control .until) at (g .zone-passed) (g .inside) h,
+  )
 
-pub ruleset locate·laws = (needs, as-reached, at-first, not-whole, all-located, all-covered)
+pub ruleset locate·laws = (needs, at-first, breaks, better-goes, both-goes, candidate-goes, control-goes, other-goes, all-located, all-covered)
+
+-- ---- a part
+
+pub new-part : (p : Part) (at next : ℕ) → p .until ≡ 0 → record { from = at; until = next } ≡ grownTo p at next
+unfolding grownTo pick
+new-part p at next z = rw (eq-eqb (p .until) 0 z)
+
+pub longer-part : (p : Part) (at next : ℕ) → (p .until ≡ 0 → ⊥) → record { from = p .from; until = next } ≡ grownTo p at next
+unfolding grownTo pick
+longer-part p at next z = rw (ne-eqb (p .until) 0 z)
+
+pub ruleset grown·laws = (needs, new-part, longer-part)

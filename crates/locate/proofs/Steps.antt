@@ -25,7 +25,7 @@ use Rattle.ranks.specs.Ranks.{endsIn}
 use Rattle.locate.specs.declared.Located.{Located}
 use Rattle.locate.specs.declared.Step.{Step}
 use Rattle.locate.specs.Locations.{bestSeen}
-use Rattle.locate.specs.Steps.{mayAnswer, stepSeen, stepOf}
+use Rattle.locate.specs.Steps.{mayAnswer, mayControl, relatedStep, stepSeen, stepOf}
 
 -- ---- a prefix
 
@@ -81,34 +81,61 @@ module _ (client name : List ℕ) (located : Located) (key rdata : List ℕ) (se
     unfolding stepSeen stepOf
     step-location r b = rw (is-location, b)
 
-  module _ (w : Bool) (type : ℕ) (shared : Shared) (fixed : ℕ) (q : seen ≡ Seen.Resource w type shared fixed) (t : Bool) (k : t ≡ mayAnswer name key w) where
+  module _ (w : Bool) (type : ℕ) (shared : Shared) (fixed : ℕ) (q : seen ≡ Seen.Resource w type shared fixed) (t : Bool) (k : t ≡ endsIn name key) where
     owned : recordIn key rdata ≡ some (resource (ownerOf w key) type (loBytes (shared .lo)) (shared .ttl .0) (shared .time .0) (drop fixed rdata))
     owned = is-resource key rdata seen e w type shared fixed q
 
     marked : wild (ownerOf w key) ≡ w
     marked = owner-wild w key (good-key key rdata seen e w type shared fixed q)
 
-    pub step-candidate : t ≡ true → stepSeen Step.Candidate ≡ stepOf client name (bestSeen located) key (recordIn key rdata)
+    pub step-other : not t ≡ true → stepSeen Step.Other ≡ stepOf client name (bestSeen located) key (recordIn key rdata)
     unfolding stepSeen stepOf pick
-    step-candidate y = rw (owned, marked, ← k, y)
+    step-other n = rw (owned, ← k, not-true t n)
 
-    pub step-other : t ≡ false → stepSeen Step.Other ≡ stepOf client name (bestSeen located) key (recordIn key rdata)
-    unfolding stepSeen stepOf pick
-    step-other y = rw (owned, marked, ← k, y)
+    pub step-related : (r : Step) → not t ≡ false → stepSeen r ≡ relatedStep name key w type → stepSeen r ≡ stepOf client name (bestSeen located) key (recordIn key rdata)
+    unfolding stepOf pick
+    step-related r n h = rw (owned, marked, ← k, not-false t n) h
 
-module _ (name key : List ℕ) (w t : Bool) (k : t ≡ endsIn (map lower name) key) where
-  pub no-end : not t ≡ true → false ≡ mayAnswer (map lower name) key w
-  unfolding mayAnswer
-  no-end n = rw (← k, not-true t n)
+pub ruleset step·laws = (needs, step-broken, prefix-there, step-location, step-other, step-related)
 
-  pub wildcard-answers : not t ≡ false → w ≡ true → true ≡ mayAnswer (map lower name) key w
-  unfolding mayAnswer
-  wildcard-answers n y = rw (← k, not-false t n, y)
+-- ---- a record whose key the name ends in
 
-  pub own-answers : not t ≡ false → w ≡ false → eqb (length name) (length key) ≡ mayAnswer (map lower name) key w
-  unfolding mayAnswer
-  own-answers n y = rw (← k, not-false t n, y, length-map name lower)
+module _ (name key : List ℕ) (w : Bool) (type : ℕ) where
+  pub starred : w ≡ true → stepSeen Step.Candidate ≡ relatedStep (map lower name) key w type
+  unfolding stepSeen relatedStep mayAnswer mayControl
+  starred y = rw y
 
-pub ruleset answer·laws = (needs, no-end, wildcard-answers, own-answers)
+  module _ (y : w ≡ false) (own : Bool) (o : own ≡ eqb (length name) (length key)) where
+    own-is : mayAnswer (map lower name) key w ≡ own
+    unfolding mayAnswer
+    own-is = rw (y, length-map name lower, ← o)
 
-pub ruleset step·laws = (needs, step-broken, prefix-there, step-location, step-candidate, step-other)
+    pub is-ns : (r : Step) → type ≡ 2 → stepSeen r ≡ Rattle.locate.specs.Steps.seen own true → stepSeen r ≡ relatedStep (map lower name) key w type
+    unfolding relatedStep mayControl
+    is-ns r e h = rw (own-is, y, eq-eqb type 2 e) h
+
+    module _ (n : type ≡ 2 → ⊥) where
+      pub is-soa : (r : Step) → type ≡ 6 → stepSeen r ≡ Rattle.locate.specs.Steps.seen own true → stepSeen r ≡ relatedStep (map lower name) key w type
+      unfolding relatedStep mayControl
+      is-soa r e h = rw (own-is, y, ne-eqb type 2 n, eq-eqb type 6 e) h
+
+      module _ (m : type ≡ 6 → ⊥) where
+        pub own-one : own ≡ true → stepSeen Step.Candidate ≡ relatedStep (map lower name) key w type
+        unfolding stepSeen relatedStep mayControl
+        own-one t = rw (own-is, y, ne-eqb type 2 n, ne-eqb type 6 m, t)
+
+        pub not-own : own ≡ false → stepSeen Step.Other ≡ relatedStep (map lower name) key w type
+        unfolding stepSeen relatedStep mayControl
+        not-own t = rw (own-is, y, ne-eqb type 2 n, ne-eqb type 6 m, t)
+
+pub ruleset related·laws = (needs, starred, is-ns, is-soa, own-one, not-own)
+
+pub both-is : (own : Bool) → own ≡ true → stepSeen Step.Both ≡ Rattle.locate.specs.Steps.seen own true
+unfolding stepSeen
+both-is own e = rw e
+
+pub control-is : (own : Bool) → own ≡ false → stepSeen Step.Control ≡ Rattle.locate.specs.Steps.seen own true
+unfolding stepSeen
+control-is own e = rw e
+
+pub ruleset controls·laws = (needs, both-is, control-is)

@@ -1,4 +1,5 @@
 pub mod Covers
+pub mod Grown
 pub mod Locations
 pub mod Reaches
 pub mod Steps

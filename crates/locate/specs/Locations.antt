@@ -22,4 +22,4 @@ bestSeen r = record { lo = loBytes (r .lo); atLeast = r .least }
 
 unfoldable pub judgedLo : Judged → Option (List ℕ)
 judgedLo Judged.Broken = none
-judgedLo (Judged.Whole lo from until) = some (loBytes lo)
+judgedLo (Judged.Whole lo from until first last) = some (loBytes lo)

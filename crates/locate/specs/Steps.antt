@@ -1,6 +1,6 @@
 -- The pass over a stream, record by record.
 use Prim.Native.Nat.{ℕ}
-use mathlib.Core.Bool.{Bool, _&&_, _||_}
+use mathlib.Core.Bool.{Bool, true, false, not, _&&_, _||_}
 use mathlib.Core.List.{List}
 use mathlib.Core.Option.{Option, none, some}
 use lib.ListN.{length}
@@ -13,24 +13,32 @@ use Rattle.ranks.specs.Ranks.{endsIn}
 use Rattle.locate.specs.declared.Step.{Step}
 use Rattle.locate.specs.Locations.{bestSeen}
 
--- what a record is to the pass: malformed, a location, with the best one then, one that may answer, or any other
+-- what a record is to the pass: malformed; a location, with the best one then; or one that may answer, may make a control name, both or neither
 pub data Stepped : Type 0 where
   malformed : Stepped
   located : Best → Stepped
-  candidate : Stepped
-  other : Stepped
+  seen : Bool → Bool → Stepped
 
 unfoldable pub stepSeen : Step → Stepped
 stepSeen Step.Broken = malformed
 stepSeen (Step.Better best) = located (bestSeen best)
-stepSeen Step.Candidate = candidate
-stepSeen Step.Other = other
+stepSeen Step.Both = seen true true
+stepSeen Step.Candidate = seen true false
+stepSeen Step.Control = seen false true
+stepSeen Step.Other = seen false false
 
--- whether a record of this key, a wildcard's or another, may answer for a name
+-- of a record whose key the name ends in: a wildcard's, or one of the name itself, may answer
 unfoldable pub mayAnswer : List ℕ → List ℕ → Bool → Bool
-mayAnswer name key w = endsIn name key && (w || eqb (length name) (length key))
+mayAnswer name key w = w || eqb (length name) (length key)
+
+-- and an ordinary NS or SOA record may make a control name
+unfoldable pub mayControl : Bool → ℕ → Bool
+mayControl w type = not w && (eqb type 2 || eqb type 6)
+
+unfoldable pub relatedStep : List ℕ → List ℕ → Bool → ℕ → Stepped
+relatedStep name key w type = seen (mayAnswer name key w) (mayControl w type)
 
 unfoldable pub stepOf : List ℕ → List ℕ → Best → List ℕ → Option Record → Stepped
 stepOf client name best key none = malformed
 stepOf client name best key (some (location prefix lo)) = located (better client best (location prefix lo))
-stepOf client name best key (some (resource owner type lo ttl time rdata)) = pick (mayAnswer name key (wild owner)) candidate other
+stepOf client name best key (some (resource owner type lo ttl time rdata)) = pick (endsIn name key) (relatedStep name key (wild owner) type) (seen false false)

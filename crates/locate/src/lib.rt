@@ -1,5 +1,6 @@
 // The pass that judges a stream, and finds the client's location and the part of the stream in which records may answer.
 ghost use mathlib.Core.Path.{_≡_};
+ghost use mathlib.Core.Bool.{true};
 ghost use mathlib.Core.List.{map};
 ghost use Prim.Native.Nat.{_≤_};
 ghost use lib.ListN.{length, drop};
@@ -9,8 +10,8 @@ ghost use Rattle.rules.specs.Questions.{matches, better};
 ghost use Rattle.rules.specs.Reading.{recordIn, decode};
 ghost use Rattle.locate.specs.Covers.{Covered};
 ghost use Rattle.locate.specs.Locations.{bestSeen, judgedLo, locatedIn};
-ghost use Rattle.locate.specs.Reaches.{IsReached, GoesOn};
-ghost use Rattle.locate.specs.Steps.{mayAnswer, stepSeen, stepOf};
+ghost use Rattle.locate.specs.Grown.{grownTo};
+ghost use Rattle.locate.specs.Steps.{seen, relatedStep, stepSeen, stepOf};
 use judge::Seen;
 use judge::record_in;
 use ranks::is_end;
@@ -23,28 +24,27 @@ struct Located {
     least: usize,
 }
 
-// What a record is to the pass: malformed, a location, with the better of it and the one so far, one that may answer, or any other.
+// What a record is to the pass: malformed, a location, with the better of it and the one so far, one that may answer, one that may make a control
+// name, both, or any other.
 enum Step {
     Broken,
     Better(Located),
+    Both,
     Candidate,
+    Control,
     Other,
 }
 
-// How far a stream is judged: the location up to a place, the part before it outside which no record can answer, whose end is 0 where none was
-// found, and whether all is whole so far, or else a malformed record stands at the place.
-struct Reached {
-    located: Located,
+// A part of a stream, from one place up to another; its end is 0 where nothing was found.
+struct Part {
     from: usize,
     until: usize,
-    at: usize,
-    whole: bool,
 }
 
-// Whether a stream is whole records, and then the client's location, and the part, from one place up to another, outside which no record can
-// answer.
+// Whether a stream is whole records, and then the client's location, the part outside which no record can answer, and the part outside which none can
+// make a control name.
 pub enum Judged {
-    Whole(Lo, usize, usize),
+    Whole(Lo, usize, usize, usize, usize),
     Broken,
 }
 
@@ -93,17 +93,33 @@ fn better_in(client: &[u8], located: Located, found: Lo, key: &[u8]) -> Located
     }
 }
 
-// Whether a record may answer for a name: one of the name itself, or a wildcard's whose key the name ends in.
-fn may_answer(name: &[u8], key: &[u8], wild: bool) -> bool
-    ensures { λ r. ⌜ r ≡ mayAnswer (map lower (now (name .entry))) (now (key .entry)) wild ⌝ }
+// What a record is whose key the name ends in.
+fn related_step(name: &[u8], key: &[u8], wild: bool, rtype: u16) -> Step
+    ensures { λ r. ⌜ stepSeen r ≡ relatedStep (map lower (now (name .entry))) (now (key .entry)) wild rtype ⌝ }
 {
-    if !is_end(name, key) {
-        return false;
-    }
     if wild {
-        return true;
+        return Step::Candidate;
     }
-    name.len() == key.len()
+    let own = name.len() == key.len();
+    if rtype == 2 {
+        return controls(own);
+    }
+    if rtype == 6 {
+        return controls(own);
+    }
+    if own {
+        return Step::Candidate;
+    }
+    Step::Other
+}
+
+fn controls(own: bool) -> Step
+    ensures { λ r. ⌜ stepSeen r ≡ seen own true ⌝ }
+{
+    if own {
+        return Step::Both;
+    }
+    Step::Control
 }
 
 // What a record is to the pass.
@@ -115,42 +131,46 @@ fn step_in(client: &[u8], name: &[u8], located: Located, key: &[u8], rdata: &[u8
         Seen::Location(found) => Step::Better(better_in(client, located, found, key)),
         Seen::Resource {
             wild,
-            rtype: _,
+            rtype,
             shared: _,
             fixed: _,
         } => {
-            if may_answer(name, key, wild) {
-                return Step::Candidate;
+            if !is_end(name, key) {
+                return Step::Other;
             }
-            Step::Other
+            related_step(name, key, wild, rtype)
         }
     }
 }
 
-fn reached_at(located: Located, from: usize, until: usize, at: usize, whole: bool) -> Reached
-    ensures { λ r. ⌜ r ≡ record { located = located; from = from; until = until; at = at; whole = whole } ⌝ }
+// A part up to the end of one more record.
+fn grown(part: Part, at: usize, next: usize) -> Part
+    ensures { λ r. ⌜ r ≡ grownTo part at next ⌝ }
 {
-    Reached {
-        located,
-        from,
-        until,
-        at,
-        whole,
+    let until = part.until;
+    if until == 0 {
+        return Part {
+            from: at,
+            until: next,
+        };
     }
+    let from = part.from;
+    Part { from, until: next }
 }
 
-// Goes on from what is known of a stream: to its end, or up to the end of the first record that may answer, if none was found before. So the
-// loop itself need not keep where that one stands.
-fn judge_from(stream: &[u8], client: &[u8], name: &[u8], known: Reached) -> Reached
-    requires { ⌜ IsReached (now client) (map lower (now name)) (now stream) known ⌝ }
-    ensures { λ r. ⌜ IsReached (now (client .entry)) (map lower (now (name .entry))) (now (stream .entry)) r ⌝ }
-    ensures { λ r. ⌜ GoesOn (now (stream .entry)) known r ⌝ }
+// Every record is read, also behind the last location: a stream is judged whole before anything of it is answered.
+pub fn judge_and_locate(stream: &[u8], client: &[u8], name: &[u8]) -> Judged
+    ensures { λ r. ⌜ judgedLo r ≡ locatedIn (now (client .entry)) (decode (now (stream .entry))) ⌝ }
+    ensures { λ r. ⌜ Covered (map lower (now (name .entry))) (now (stream .entry)) r ⌝ }
 {
     let n = stream.len();
-    let from = known.from;
-    let mut located = known.located;
-    let mut until = known.until;
-    let mut at = known.at;
+    let mut located = Located {
+        lo: Lo::Every,
+        least: 0,
+    };
+    let mut level = Part { from: 0, until: 0 };
+    let mut control = Part { from: 0, until: 0 };
+    let mut at: usize = 0;
     while at < n {
         let span = span_at(stream, at);
         let start = span.start;
@@ -164,17 +184,23 @@ fn judge_from(stream: &[u8], client: &[u8], name: &[u8], known: Reached) -> Reac
             &stream[middle..next],
         ) {
             Step::Broken => {
-                return reached_at(located, from, until, at, false);
+                return Judged::Broken;
             }
             Step::Better(better) => {
                 located = better;
                 at = next;
             }
+            Step::Both => {
+                level = grown(level, at, next);
+                control = grown(control, at, next);
+                at = next;
+            }
             Step::Candidate => {
-                if until == 0 {
-                    return reached_at(located, at, next, next, true);
-                }
-                until = next;
+                level = grown(level, at, next);
+                at = next;
+            }
+            Step::Control => {
+                control = grown(control, at, next);
                 at = next;
             }
             Step::Other => {
@@ -182,30 +208,10 @@ fn judge_from(stream: &[u8], client: &[u8], name: &[u8], known: Reached) -> Reac
             }
         }
     }
-    reached_at(located, from, until, at, true)
-}
-
-// Every record is read, also behind the last location: a stream is judged whole before anything of it is answered.
-pub fn judge_and_locate(stream: &[u8], client: &[u8], name: &[u8]) -> Judged
-    ensures { λ r. ⌜ judgedLo r ≡ locatedIn (now (client .entry)) (decode (now (stream .entry))) ⌝ }
-    ensures { λ r. ⌜ Covered (map lower (now (name .entry))) (now (stream .entry)) r ⌝ }
-{
-    let nothing = Located {
-        lo: Lo::Every,
-        least: 0,
-    };
-    let start = reached_at(nothing, 0, 0, 0, true);
-    let first = judge_from(stream, client, name, start);
-    if !first.whole {
-        return Judged::Broken;
-    }
-    let all = judge_from(stream, client, name, first);
-    if !all.whole {
-        return Judged::Broken;
-    }
-    let best = all.located;
-    let lo = best.lo;
-    let from = all.from;
-    let until = all.until;
-    Judged::Whole(lo, from, until)
+    let lo = located.lo;
+    let from = level.from;
+    let until = level.until;
+    let first = control.from;
+    let last = control.until;
+    Judged::Whole(lo, from, until, first, last)
 }

@@ -12,6 +12,7 @@ ghost use Rattle.view.specs.Views.{sharing};
 ghost use Rattle.picks.specs.Picks.{wantedIn, replyIn, pickedFrom};
 use judge::Seen;
 use judge::known::known_in;
+use ranks::Role;
 use ranks::is_end;
 use ranks::rank_in;
 use rules::quantities::Lo;
@@ -21,10 +22,11 @@ use rules::quantities::Ttl;
 use rules::replies::Reply;
 use stream::span_at;
 
-// Whether a record is of the level and of the type asked for, 255 for any.
+// Whether a record is of a rank and of the type asked for, 255 for any.
 fn is_wanted(
     name: &[u8],
     qtype: u16,
+    role: Role,
     here: Lo,
     moment: Moment,
     best: usize,
@@ -32,9 +34,9 @@ fn is_wanted(
     rdata: &[u8],
 ) -> bool
     requires { ⌜ isSome (recordIn (now key) (now rdata)) ≡ true ⌝ }
-    ensures { λ r. ⌜ r ≡ wantedIn qtype (map lower (now (name .entry))) (loBytes here) (moment .0) best (recordIn (now (key .entry)) (now (rdata .entry))) ⌝ }
+    ensures { λ r. ⌜ r ≡ wantedIn qtype role (map lower (now (name .entry))) (loBytes here) (moment .0) best (recordIn (now (key .entry)) (now (rdata .entry))) ⌝ }
 {
-    if rank_in(name, here, moment, key, rdata) != best {
+    if rank_in(name, role, here, moment, key, rdata) != best {
         return false;
     }
     match known_in(key, rdata) {
@@ -112,6 +114,7 @@ pub fn pick_record(
     stream: &[u8],
     name: &[u8],
     qtype: u16,
+    role: Role,
     here: Lo,
     moment: Moment,
     best: usize,
@@ -121,7 +124,7 @@ pub fn pick_record(
     requires { ⌜ 0 < best ⌝ }
     requires { ⌜ from ≤ length (now stream) ⌝ }
     requires { ⌜ isSome (decode (drop from (now stream))) ≡ true ⌝ }
-    ensures { λ r. ⌜ r ≡ pickedFrom qtype (map lower (now (name .entry))) (loBytes here) (moment .0) best from ordinal (valueOr [] (decode (drop from (now (stream .entry))))) ⌝ }
+    ensures { λ r. ⌜ r ≡ pickedFrom qtype role (map lower (now (name .entry))) (loBytes here) (moment .0) best from ordinal (valueOr [] (decode (drop from (now (stream .entry))))) ⌝ }
 {
     let n = stream.len();
     let mut left = ordinal;
@@ -137,6 +140,7 @@ pub fn pick_record(
             if is_wanted(
                 name,
                 qtype,
+                role,
                 here,
                 moment,
                 best,

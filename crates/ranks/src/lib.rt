@@ -1,13 +1,14 @@
 // The rank of a record among those that can answer for a name.
 ghost use mathlib.Core.Path.{_≡_};
-ghost use mathlib.Core.Bool.{true, _||_};
+ghost use mathlib.Core.Bool.{true, not, _&&_, _||_};
 ghost use mathlib.Core.List.{map};
+ghost use lib.ListN.{length};
 ghost use lib.Dec.{eqb};
-ghost use Rattle.rules.specs.Lists.{lower, sameBytes, isSome};
+ghost use Rattle.rules.specs.Lists.{pick, lower, sameBytes, isSome};
 ghost use Rattle.rules.specs.Records.{loBytes};
 ghost use Rattle.rules.specs.Questions.{ancestors};
 ghost use Rattle.rules.specs.Reading.{recordIn};
-ghost use Rattle.ranks.specs.Ranks.{among, endsIn, keyRank, rankIn};
+ghost use Rattle.ranks.specs.Ranks.{among, endsIn, keyRank, roleKeyRank, rankIn};
 use judge::Seen;
 use judge::known::known_in;
 use letters::letters::lowered;
@@ -15,6 +16,14 @@ use rules::quantities::Lo;
 use rules::quantities::Moment;
 use view::visible;
 use wire::get::wide;
+
+// What a record is looked at for: the level of a name; or, ordinary records of the name and its ancestors, NS for the control name and SOA for
+// the zone.
+pub enum Role {
+    Level,
+    Control,
+    Zone,
+}
 
 // Whether a byte of a key is a byte with its letter lowered. It is computed: the table would be laid out anew for each byte.
 fn is_lowered(key: u8, b: u8) -> bool
@@ -125,10 +134,35 @@ fn rank(name: &[u8], key: &[u8], wild: bool) -> usize
     0
 }
 
+// The key's length for an ordinary record of a type, else 0.
+fn typed_rank(key: &[u8], wild: bool, rtype: u16, wanted: u16) -> usize
+    ensures { λ r. ⌜ r ≡ pick (not wild && eqb wanted rtype) (length (now (key .entry))) 0 ⌝ }
+{
+    if wild {
+        return 0;
+    }
+    if wanted != rtype {
+        return 0;
+    }
+    key.len()
+}
+
+// The rank of a record whose key is the name or an ancestor.
+fn role_rank(name: &[u8], role: Role, key: &[u8], wild: bool, rtype: u16) -> usize
+    requires { ⌜ (sameBytes (now key) (map lower (now name)) || among (now key) (ancestors (map lower (now name)))) ≡ true ⌝ }
+    ensures { λ r. ⌜ r ≡ roleKeyRank role (map lower (now (name .entry))) (now (key .entry)) wild rtype ⌝ }
+{
+    match role {
+        Role::Level => rank(name, key, wild),
+        Role::Control => typed_rank(key, wild, rtype, 2),
+        Role::Zone => typed_rank(key, wild, rtype, 6),
+    }
+}
+
 // The rank of a record that a client who is here sees at a moment, 0 for any other. The key alone rules most records out.
-pub fn rank_in(name: &[u8], here: Lo, moment: Moment, key: &[u8], rdata: &[u8]) -> usize
+pub fn rank_in(name: &[u8], role: Role, here: Lo, moment: Moment, key: &[u8], rdata: &[u8]) -> usize
     requires { ⌜ isSome (recordIn (now key) (now rdata)) ≡ true ⌝ }
-    ensures { λ r. ⌜ r ≡ rankIn (map lower (now (name .entry))) (loBytes here) (moment .0) (recordIn (now (key .entry)) (now (rdata .entry))) ⌝ }
+    ensures { λ r. ⌜ r ≡ rankIn role (map lower (now (name .entry))) (loBytes here) (moment .0) (recordIn (now (key .entry)) (now (rdata .entry))) ⌝ }
 {
     if !is_related(name, key) {
         return 0;
@@ -138,14 +172,14 @@ pub fn rank_in(name: &[u8], here: Lo, moment: Moment, key: &[u8], rdata: &[u8]) 
         Seen::Location(_) => 0,
         Seen::Resource {
             wild,
-            rtype: _,
+            rtype,
             shared,
             fixed: _,
         } => {
             if !visible(here, moment, shared) {
                 return 0;
             }
-            rank(name, key, wild)
+            role_rank(name, role, key, wild, rtype)
         }
     }
 }

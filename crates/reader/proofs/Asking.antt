@@ -10,18 +10,23 @@ use borrow.Author.Tests.{eq-eqb, ne-eqb, le-leb, lt-leb, not-false}
 use lib.ListN.{length}
 use lib.Dec.{eqb}
 use Rattle.rules.specs.declared.quantities.Lo.{Lo}
+use Rattle.rules.specs.declared.replies.Outcome.{Outcome}
 use Rattle.rules.specs.declared.replies.Reply.{Reply}
+use Rattle.rules.specs.declared.replies.Response.{Response}
 use Rattle.rules.specs.declared.replies.AskFault.{AskFault}
 use Rattle.rules.specs.Lists.{pick, isSome, valueOr, lower}
 use Rattle.rules.specs.Names.{isWire}
 use Rattle.rules.specs.Records.{Record, loBytes}
 use Rattle.rules.specs.Bytes.{size}
 use Rattle.rules.specs.Questions.{Question, Placed, placedFrom, locationOf, answers}
-use Rattle.rules.specs.Reading.{momentEnd, isClient, decode, replyFrom, replyDecoded, askReply}
+use Rattle.rules.specs.Reading.{momentEnd, isClient, decode, refusal, responseOf, responseFrom, responseDecoded, askResponse}
+use Rattle.ranks.specs.declared.Role.{Role}
 use Rattle.locate.specs.declared.Judged.{Judged}
 use Rattle.locate.specs.Covers.{Covers, Covered}
 use Rattle.locate.specs.Locations.{locatedIn, judgedLo}
+use Rattle.rules.proofs.Decoding.{wire-lower}
 use Rattle.reader.specs.Answers.{answeredFrom}
+use Rattle.reader.proofs.Answering.{answer-is}
 
 -- ---- the client
 
@@ -42,44 +47,55 @@ unfolding placedFrom
 placed-back at [] = refl
 placed-back at (r ∷ rs) = rw (placed-back (at + size r) rs)
 
-replied : (q : Question) (ordinal : ℕ) (rs : List Record)
-    → replyFrom rs q ordinal ≡ answeredFrom (q .type) (map lower (q .name)) (locationOf (q .client) rs) (q .moment) ordinal rs
-unfolding replyFrom answers answeredFrom
-replied q ordinal rs = rw (placed-back 0 rs)
+replied : (q : Question) (ordinal : ℕ) (rs : List Record) → isWire (q .name) ≡ true
+    → responseFrom rs q ordinal ≡ answeredFrom (q .type) (map lower (q .name)) (locationOf (q .client) rs) (q .moment) ordinal rs
+unfolding responseFrom answers
+replied q ordinal rs w =
+    rw (placed-back 0 rs) (sym (answer-is (q .type) (map lower (q .name)) (locationOf (q .client) rs) (q .moment) ordinal rs (wire-lower (q .name) (rw w tt))))
 
-module _ (client : List ℕ) (here : Lo) (from until : ℕ) where
-  located : (o : Option (List Record)) → judgedLo (Judged.Whole here from until) ≡ locatedIn client o → isSome o ≡ true
+module _ (client : List ℕ) (here : Lo) (from until first last : ℕ) where
+  located : (o : Option (List Record)) → judgedLo (Judged.Whole here from until first last) ≡ locatedIn client o → isSome o ≡ true
   unfolding judgedLo locatedIn isSome
   located none e = let z : _≡_ {A = ℕ} 0 1 = cc in absurd (omega arith)
   located (some rs) e = refl
 
-  located-here : (o : Option (List Record)) → judgedLo (Judged.Whole here from until) ≡ locatedIn client o → loBytes here ≡ locationOf client (valueOr [] o)
+  located-here : (o : Option (List Record)) → judgedLo (Judged.Whole here from until first last) ≡ locatedIn client o → loBytes here ≡ locationOf client (valueOr [] o)
   unfolding judgedLo locatedIn valueOr
   located-here none e = let z : _≡_ {A = ℕ} 0 1 = cc in absurd (omega arith)
   located-here (some rs) e = cc
 
 module _ (stream client : List ℕ) (j : Judged) (e : judgedLo j ≡ locatedIn client (decode stream)) where
-  pub judged-whole : (here : Lo) (from until : ℕ) → j ≡ Judged.Whole here from until → isSome (decode stream) ≡ true
-  judged-whole here from until w = located client here from until (decode stream) (rw w at e)
+  pub judged-whole : (here : Lo) (from until first last : ℕ) → j ≡ Judged.Whole here from until first last → isSome (decode stream) ≡ true
+  judged-whole here from until first last w = located client here from until first last (decode stream) (rw w at e)
 
-  not-whole : (q : Question) (ordinal : ℕ) → j ≡ Judged.Broken → Reply.Refused AskFault.Records ≡ replyDecoded (decode stream) q ordinal
+  not-whole : (q : Question) (ordinal : ℕ) → j ≡ Judged.Broken → refusal AskFault.Records ≡ responseDecoded (decode stream) q ordinal
   not-whole q ordinal w = go (decode stream) (rw w at e)
     where
-      go : (o : Option (List Record)) → judgedLo Judged.Broken ≡ locatedIn client o → Reply.Refused AskFault.Records ≡ replyDecoded o q ordinal
-      go none e = unfold replyDecoded in refl
+      go : (o : Option (List Record)) → judgedLo Judged.Broken ≡ locatedIn client o → refusal AskFault.Records ≡ responseDecoded o q ordinal
+      go none e = unfold responseDecoded in refl
       go (some rs) e = unfold judgedLo locatedIn in (let z : _≡_ {A = ℕ} 0 1 = cc in absurd (omega arith))
 
-  whole-reply : (q : Question) (ordinal : ℕ) (here : Lo) (from until : ℕ) (r : Reply) → q .client ≡ client → j ≡ Judged.Whole here from until
-      → r ≡ answeredFrom (q .type) (map lower (q .name)) (loBytes here) (q .moment) ordinal (valueOr [] (decode stream)) → r ≡ replyDecoded (decode stream) q ordinal
-  whole-reply q ordinal here from until r k w a = go (decode stream) (rw w at e) a
+  whole-reply : (q : Question) (ordinal : ℕ) (here : Lo) (from until first last : ℕ) (r : Response) → isWire (q .name) ≡ true → q .client ≡ client → j ≡ Judged.Whole here from until first last
+      → r ≡ answeredFrom (q .type) (map lower (q .name)) (loBytes here) (q .moment) ordinal (valueOr [] (decode stream)) → r ≡ responseDecoded (decode stream) q ordinal
+  whole-reply q ordinal here from until first last r n k w a = go (decode stream) (rw w at e) a
     where
-      go : (o : Option (List Record)) → judgedLo (Judged.Whole here from until) ≡ locatedIn client o
-          → r ≡ answeredFrom (q .type) (map lower (q .name)) (loBytes here) (q .moment) ordinal (valueOr [] o) → r ≡ replyDecoded o q ordinal
+      go : (o : Option (List Record)) → judgedLo (Judged.Whole here from until first last) ≡ locatedIn client o
+          → r ≡ answeredFrom (q .type) (map lower (q .name)) (loBytes here) (q .moment) ordinal (valueOr [] o) → r ≡ responseDecoded o q ordinal
       go none e a = unfold judgedLo locatedIn in (let z : _≡_ {A = ℕ} 0 1 = cc in absurd (omega arith))
-      go (some rs) e a = unfold replyDecoded in (a ∙ rw (located-here client here from until (some rs) e, ← k) (unfold valueOr in sym (replied q ordinal rs)))
+      go (some rs) e a = unfold responseDecoded in (a ∙ rw (located-here client here from until first last (some rs) e, ← k) (unfold valueOr in sym (replied q ordinal rs n)))
 
-pub judged-covers : (name stream : List ℕ) (j : Judged) (here : Lo) (from until : ℕ) → Covered name stream j → j ≡ Judged.Whole here from until → Covers name stream from until
-judged-covers name stream j here from until s w = rw w at s
+module _ (name stream : List ℕ) (j : Judged) (here : Lo) (from until first last : ℕ) (s : Covered name stream j) (w : j ≡ Judged.Whole here from until first last) where
+  judged-covers : Covers Role.Level name stream from until × Covers Role.Control name stream first last × Covers Role.Zone name stream first last
+  judged-covers = rw w at s
+
+  pub level-covers : Covers Role.Level name stream from until
+  level-covers = judged-covers .0
+
+  pub control-covers : Covers Role.Control name stream first last
+  control-covers = judged-covers .1
+
+  pub zone-covers : Covers Role.Zone name stream first last
+  zone-covers = judged-covers .2
 
 -- ---- the refusals
 
@@ -87,33 +103,40 @@ module _ (stream name client : List ℕ) (type moment ordinal : ℕ) (t : Bool) 
   abbrev question : Question
   question = record { name = name; type = type; client = client; moment = moment }
 
-  pub no-name : not t ≡ true → Reply.Refused AskFault.Name ≡ askReply stream question ordinal
-  unfolding askReply pick
-  no-name y = rw (← n, y)
+  pub no-name : (r : Response) → not t ≡ true → r ≡ refusal AskFault.Name → r ≡ askResponse stream question ordinal
+  unfolding askResponse pick
+  no-name r y e = rw (← n, y) e
 
   module _ (named : not t ≡ false) where
-    pub no-moment : 9223372036854775807 < moment → Reply.Refused AskFault.Moment ≡ askReply stream question ordinal
-    unfolding askReply momentEnd pick
-    no-moment h = rw (← n, named, le-leb 9223372036854775808 moment (omega arith))
+    pub no-moment : (r : Response) → 9223372036854775807 < moment → r ≡ refusal AskFault.Moment → r ≡ askResponse stream question ordinal
+    unfolding askResponse momentEnd pick
+    no-moment r h e = rw (← n, named, le-leb 9223372036854775808 moment (omega arith)) e
 
     pub is-name : isWire name ≡ true
     is-name = sym n ∙ not-false t named
 
     module _ (timed : moment ≤ 9223372036854775807) (u : Bool) (c : u ≡ isClient client) where
-      pub no-client : not u ≡ true → Reply.Refused AskFault.Client ≡ askReply stream question ordinal
-      unfolding askReply momentEnd pick
-      no-client y = rw (← n, named, lt-leb 9223372036854775808 moment (omega arith), ← c, y)
+      pub no-client : (r : Response) → not u ≡ true → r ≡ refusal AskFault.Client → r ≡ askResponse stream question ordinal
+      unfolding askResponse momentEnd pick
+      no-client r y e = rw (← n, named, lt-leb 9223372036854775808 moment (omega arith), ← c, y) e
 
       module _ (addressed : not u ≡ false) (j : Judged) (e : judgedLo j ≡ locatedIn client (decode stream)) where
-        decided : askReply stream question ordinal ≡ replyDecoded (decode stream) question ordinal
-        unfolding askReply momentEnd pick
+        decided : askResponse stream question ordinal ≡ responseDecoded (decode stream) question ordinal
+        unfolding askResponse momentEnd pick
         decided = rw (← n, named, lt-leb 9223372036854775808 moment (omega arith), ← c, addressed)
 
-        pub no-records : j ≡ Judged.Broken → Reply.Refused AskFault.Records ≡ askReply stream question ordinal
-        no-records w = not-whole stream client j e question ordinal w ∙ sym decided
+        pub no-records : (r : Response) → j ≡ Judged.Broken → r ≡ refusal AskFault.Records → r ≡ askResponse stream question ordinal
+        no-records r w f = f ∙ not-whole stream client j e question ordinal w ∙ sym decided
 
-        pub is-answered : (here : Lo) (from until : ℕ) (r : Reply) → j ≡ Judged.Whole here from until
-            → r ≡ answeredFrom type (map lower name) (loBytes here) moment ordinal (valueOr [] (decode stream)) → r ≡ askReply stream question ordinal
-        is-answered here from until r w a = whole-reply stream client j e question ordinal here from until r refl w a ∙ sym decided
+        pub is-answered : (here : Lo) (from until first last : ℕ) (r : Response) → j ≡ Judged.Whole here from until first last
+            → r ≡ answeredFrom type (map lower name) (loBytes here) moment ordinal (valueOr [] (decode stream)) → r ≡ askResponse stream question ordinal
+        is-answered here from until first last r w a = whole-reply stream client j e question ordinal here from until first last r is-name refl w a ∙ sym decided
 
-pub ruleset ask·laws = (needs, judged-whole, judged-covers, no-name, no-moment, is-name, no-client, no-records, is-answered)
+-- a refusal's response
+pub refuses : (fault : AskFault) → record { outcome = Outcome.Refused; reply = Reply.Refused fault } ≡ refusal fault
+unfolding refusal
+refuses fault = refl
+
+pub ruleset refused·laws = (needs, refuses)
+
+pub ruleset ask·laws = (needs, judged-whole, level-covers, control-covers, zone-covers, no-name, no-moment, is-name, no-client, no-records, is-answered)

@@ -1,7 +1,7 @@
-// Asking: the records of a compiled stream that answer a question, found in three passes: over the stream itself, and twice over the part of
-// it that may answer.
+// Asking: the records of a compiled stream that answer a question, found in passes of a fixed number: over the stream itself, and then over
+// the part of it that may answer.
 ghost use mathlib.Core.Path.{_≡_};
-ghost use Rattle.rules.specs.Reading.{isClient, askReply};
+ghost use Rattle.rules.specs.Reading.{isClient, refusal, askResponse};
 
 mod answer;
 
@@ -11,7 +11,9 @@ use locate::Judged;
 use locate::judge_and_locate;
 use rules::quantities::Moment;
 use rules::replies::AskFault;
+use rules::replies::Outcome;
 use rules::replies::Reply;
+use rules::replies::Response;
 
 // Whether a client's address has 4 or 16 bytes.
 fn is_client(client: &[u8]) -> bool
@@ -24,6 +26,16 @@ fn is_client(client: &[u8]) -> bool
     n == 16
 }
 
+fn refused(fault: AskFault) -> Response
+    ensures { λ r. ⌜ r ≡ refusal fault ⌝ }
+{
+    let reply = Reply::Refused(fault);
+    Response {
+        outcome: Outcome::Refused,
+        reply,
+    }
+}
+
 // The record of this ordinal, from 0, in the answer to a question; nothing is assumed of any byte.
 pub fn ask(
     records: &[u8],
@@ -32,22 +44,33 @@ pub fn ask(
     client: &[u8],
     moment: Moment,
     ordinal: u64,
-) -> Reply
-    ensures { λ r. ⌜ r ≡ askReply (now (records .entry)) (record { name = now (name .entry); type = qtype; client = now (client .entry); moment = moment .0 }) ordinal ⌝ }
+) -> Response
+    ensures { λ r. ⌜ r ≡ askResponse (now (records .entry)) (record { name = now (name .entry); type = qtype; client = now (client .entry); moment = moment .0 }) ordinal ⌝ }
 {
     if !is_wire(name) {
-        return Reply::Refused(AskFault::Name);
+        return refused(AskFault::Name);
     }
     if 9223372036854775807 < moment.0 {
-        return Reply::Refused(AskFault::Moment);
+        return refused(AskFault::Moment);
     }
     if !is_client(client) {
-        return Reply::Refused(AskFault::Client);
+        return refused(AskFault::Client);
     }
     match judge_and_locate(records, client, name) {
-        Judged::Broken => Reply::Refused(AskFault::Records),
-        Judged::Whole(here, from, until) => {
-            answer(records, name, qtype, here, moment, ordinal, from, until)
+        Judged::Broken => refused(AskFault::Records),
+        Judged::Whole(here, from, until, first, last) => {
+            answer(
+                records,
+                name,
+                qtype,
+                here,
+                moment,
+                ordinal,
+                from,
+                until,
+                first,
+                last,
+            )
         }
     }
 }

@@ -6,8 +6,10 @@ pub mod Fields
 pub mod GoodLines
 pub mod Records
 pub mod Decoding
+pub mod Unseen
 pub mod Lowering
 pub mod Refusals
 pub mod Meaning
+pub mod Outcomes
 pub mod Sizes
 pub mod Bench

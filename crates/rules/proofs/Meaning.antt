@@ -17,10 +17,10 @@ use Rattle.rules.specs.Names.{isWire}
 use Rattle.rules.specs.Records.{Record}
 use Rattle.rules.specs.Bytes.{keyOf, rdataOf, fixedOf, dataOf, encode, size, sizeOfAll, bytesOf}
 use Rattle.rules.specs.Answers.{isDone, isGood, lineRecords, sourceRecords, answer, compileAnswer, compileOutput}
-use Rattle.rules.specs.Questions.{Placed, placedFrom, Question, wildcardOf, ancestors, firstFull, level, answers}
-use Rattle.rules.specs.Reading.{momentEnd, isClient, replyOf, replyFrom, replyDecoded, askReply}
-use Rattle.rules.specs.Demands.{Accepted, bytesNeeded, CompilingRefusesExactly, compiledBytes, Gives, CompilingKeepsTheMeaning}
-use Rattle.rules.proofs.Tests.{pick-no, and-l, and-r}
+use Rattle.rules.specs.Questions.{Placed, placedFrom, Question, wildcardOf, ancestorsTo, firstFull, level, ordinaryOfType, Result, byLevel, inZone, byControl, answers}
+use Rattle.rules.specs.Reading.{momentEnd, isClient, replyOf, responseOf, responseFrom, responseDecoded, askResponse}
+use Rattle.rules.specs.Demands.{Accepted, bytesNeeded, CompilingRefusesExactly, compiledBytes, Gives, Tells, CompilingKeepsTheMeaning}
+use Rattle.rules.proofs.Tests.{pick-ok, pick-no, and-l, and-r}
 use Rattle.rules.proofs.Lists.{OnSome, All, nil, cons, all-append, all-keep, all-at, all-map}
 use Rattle.rules.proofs.Records.{Ok, line-ok}
 use Rattle.rules.proofs.Decoding.{decode-back, size-is}
@@ -56,13 +56,25 @@ first-all nil = nil
 first-all (cons {x = []} h a) = first-all a
 first-all (cons {x = p ∷ ps} h a) = h
 
-level-all : {P : Placed → Type 0} (n : List ℕ) {ps : List Placed} → All P ps → All P (level n ps)
+level-all : {P : Placed → Type 0} (c n : List ℕ) {ps : List Placed} → All P ps → All P (level c n ps)
 unfolding level
-level-all n {ps} a = first-all (cons (all-keep _ a) (all-map (λ m. keep (λ p. wildcardOf m (p .rec)) ps) (ancestors n) (λ m. all-keep _ a)))
+level-all c n {ps} a = first-all (cons (all-keep _ a) (all-map (λ m. keep (λ p. wildcardOf m (p .rec)) ps) (ancestorsTo c n) (λ m. all-keep _ a)))
 
-pub answers-all : {P : Placed → Type 0} (q : Question) {ps : List Placed} → All P ps → All P (answers q ps)
+by-level-all : {P : Placed → Type 0} (ps : List Placed) {ws : List Placed} → All P ws → All P (byLevel ps ws .list)
+unfolding byLevel
+by-level-all [] a = nil
+by-level-all (p ∷ ps) nil = nil
+by-level-all (p ∷ ps) (cons h a) = cons h a
+
+by-control-all : {P : Placed → Type 0} (t : ℕ) (n : List ℕ) {ps : List Placed} (c : Option (List ℕ)) → All P ps → All P (byControl t n ps c .list)
+unfolding byControl inZone ordinaryOfType
+by-control-all t n none a = nil
+by-control-all {P} t n {ps} (some c) a =
+    pick-ok (λ (r : Result). All P (r .list)) _ (λ h. by-level-all (level c n ps) (all-keep _ (level-all c n a))) (λ h. all-keep _ a)
+
+pub answers-all : {P : Placed → Type 0} (q : Question) {ps : List Placed} → All P ps → All P (answers q ps .list)
 unfolding answers
-answers-all q a = all-keep _ (level-all _ (all-keep _ a))
+answers-all q a = by-control-all _ _ _ (all-keep _ a)
 
 -- ---- the place of a record's data
 
@@ -97,13 +109,13 @@ held pre n (r ∷ rs) e =
 -- ---- the demand
 
 asked : (q : Question) (n : ℕ) {rs : List Record} → All Ok rs → T (isWire (q .name)) → q .moment < momentEnd
-    → (length (q .client) ≡ 4) ⊎ (length (q .client) ≡ 16) → askReply (bytesOf rs) q n ≡ replyFrom rs q n
-unfolding askReply replyDecoded isClient
+    → (length (q .client) ≡ 4) ⊎ (length (q .client) ≡ 16) → askResponse (bytesOf rs) q n ≡ responseFrom rs q n
+unfolding askResponse responseDecoded isClient
 asked q n {rs} ok name moment client =
     pick-no _ _ _ (not-not (isWire (q .name)) name)
     ∙ pick-no _ _ _ (lt→nleb momentEnd (q .moment) moment)
     ∙ pick-no _ _ _ (not-not (eqb (length (q .client)) 4 || eqb (length (q .client)) 16) (either client))
-    ∙ ap (λ (o : Option (List Record)). replyDecoded o q n) (decode-back ok)
+    ∙ ap (λ (o : Option (List Record)). responseDecoded o q n) (decode-back ok)
     ∙ from-lower q n rs
   where
     not-not : (b : Bool) → T b → T (not (not b))
@@ -127,10 +139,10 @@ gives stream q none h = refl
 gives stream q (some p) h = record { place = _; count = _; found = refl; rdata = h .0; ends = h .1 }
 
 pub keeps-the-meaning : CompilingKeepsTheMeaning
-unfolding CompilingKeepsTheMeaning replyFrom
+unfolding CompilingKeepsTheMeaning responseFrom responseOf
 keeps-the-meaning source serial out q n a room name moment client =
     let rs : List Record = sourceRecords serial source in
-    let same : askReply (bytesOf rs) q n ≡ replyFrom rs q n = asked q n (source-ok serial source a) name moment client in
+    let list : List Placed = answers q (placedFrom 0 rs) .list in
+    let same : askResponse (bytesOf rs) q n ≡ responseFrom rs q n = asked q n (source-ok serial source a) name moment client in
     rw (written source serial out a room)
-    (subst (Gives (bytesOf rs) (q .moment) (getElem? (answers q (placedFrom 0 rs)) n)) (sym same)
-    (gives (bytesOf rs) q (getElem? (answers q (placedFrom 0 rs)) n) (all-at n (answers-all q (held [] 0 rs refl)))))
+    (subst (Tells (bytesOf rs) rs q n) (sym same) (record { outcome = refl; list = gives (bytesOf rs) q (getElem? list n) (all-at n (answers-all q (held [] 0 rs refl))) }))

@@ -7,7 +7,7 @@ use lib.ListN.{length, take, drop, replicate}
 use Rattle.rules.specs.Texts.{bytes}
 use Rattle.rules.specs.Answers.{numbersOf, compileAnswer, compileOutput}
 use Rattle.rules.specs.Questions.{Question}
-use Rattle.rules.specs.Reading.{replyNumbers, replyValues, askReply}
+use Rattle.rules.specs.Reading.{responseNumbers, replyValues, askResponse}
 
 -- a case: a source of lines, the serial, the room lent, and questions
 pub record Case : Type 0 where
@@ -16,7 +16,7 @@ pub record Case : Type 0 where
   pub room : ℕ
   pub questions : List Question
 
--- what asking answers for one ordinal: its five numbers and the bytes at the place and length handed out
+-- what asking answers for one ordinal: its six numbers and the bytes at the place and length handed out
 pub record Told : Type 0 where
   pub numbers : List ℕ
   pub rdata : List ℕ
@@ -40,8 +40,8 @@ rdataAt compiled (type ∷ lifetime ∷ place ∷ count ∷ rest) = take count (
 
 unfoldable pub tell : List ℕ → Question → ℕ → Told
 tell compiled q ordinal =
-    let reply = askReply compiled q ordinal in
-    record { numbers = replyNumbers reply; rdata = rdataAt compiled (replyValues reply) }
+    let response = askResponse compiled q ordinal in
+    record { numbers = responseNumbers response; rdata = rdataAt compiled (replyValues (response .reply)) }
 
 -- the lent buffer holds the byte 170 everywhere
 unfoldable pub said : Case → Said
@@ -79,11 +79,13 @@ soaTtl = 0 ∷ 0 ∷ 0x0a ∷ 0 ∷ []
 unfoldable pub accepted : ℕ → List ℕ
 accepted count = 0 ∷ 0 ∷ 0 ∷ count ∷ []
 
-unfoldable pub noMore : Told
-noMore = record { numbers = 18 ∷ 0 ∷ 0 ∷ 0 ∷ 0 ∷ []; rdata = [] }
+-- 18 with an outcome
+unfoldable pub noMore : ℕ → Told
+noMore outcome = record { numbers = 18 ∷ 0 ∷ 0 ∷ 0 ∷ 0 ∷ outcome ∷ []; rdata = [] }
 
-unfoldable pub only : List ℕ → List ℕ → List Told
-only numbers rdata = record { numbers = numbers; rdata = rdata } ∷ noMore ∷ []
+-- one record, and the outcome with it and behind it
+unfoldable pub only : ℕ → List ℕ → List ℕ → List Told
+only outcome numbers rdata = record { numbers = numbers ++ (outcome ∷ []); rdata = rdata } ∷ noMore outcome ∷ []
 
 unfoldable pub compiled : List ℕ → Said
 compiled output = record { answer = accepted (length output); output = output; told = [] }
@@ -110,21 +112,21 @@ table =
     ∷ compile ("+a:1.2.3.256" ∷ []) 40
     ∷ compile ("+a:1.2.3.4" ∷ "!" ∷ "+b:1.2.3.4" ∷ "!" ∷ []) 90
     ∷ record {
-      lines = "+w:192.0.2.234:0:4000000038af1379" ∷ "+w:192.0.2.235::4000000038af1379" ∷ [];
+      lines = ".w" ∷ "+w:192.0.2.234:0:4000000038af1379" ∷ "+w:192.0.2.235::4000000038af1379" ∷ [];
       serial = 7;
-      room = 60;
+      room = 158;
       questions = asking ("w" ∷ []) (192 ∷ 0 ∷ 2 ∷ 9 ∷ []) 0x4000000038af1378 ∷ asking ("w" ∷ []) (192 ∷ 0 ∷ 2 ∷ 9 ∷ []) 0x4000000038af1379 ∷ [];
     }
     ∷ record {
-      lines = "+a:192.0.2.1:::in" ∷ "+a:192.0.2.2:::ex" ∷ "%in:192.168" ∷ "%ex" ∷ [];
+      lines = ".a" ∷ "+a:192.0.2.1:::in" ∷ "+a:192.0.2.2:::ex" ∷ "%in:192.168" ∷ "%ex" ∷ [];
       serial = 7;
-      room = 90;
+      room = 188;
       questions = asking ("a" ∷ []) (192 ∷ 168 ∷ 7 ∷ 7 ∷ []) 0x4000000038af1378 ∷ asking ("a" ∷ []) (192 ∷ 0 ∷ 2 ∷ 9 ∷ []) 0x4000000038af1378 ∷ [];
     }
     ∷ record {
-      lines = "+pink.floyd.u.heaven.af.mil:1.2.3.4" ∷ "+*.u.heaven.af.mil:1.2.3.200" ∷ [];
+      lines = ".u.heaven.af.mil" ∷ "+pink.floyd.u.heaven.af.mil:1.2.3.4" ∷ "+*.u.heaven.af.mil:1.2.3.200" ∷ [];
       serial = 7;
-      room = 99;
+      room = 267;
       questions =
           asking ("sally" ∷ "floyd" ∷ "u" ∷ "heaven" ∷ "af" ∷ "mil" ∷ []) (192 ∷ 0 ∷ 2 ∷ 9 ∷ []) 0x4000000038af1378
           ∷ asking ("pink" ∷ "floyd" ∷ "u" ∷ "heaven" ∷ "af" ∷ "mil" ∷ []) (192 ∷ 0 ∷ 2 ∷ 9 ∷ []) 0x4000000038af1378
@@ -159,6 +161,18 @@ service = wire ("_sip" ∷ "_udp" ∷ "slocombe" ∷ "example" ∷ [])
 unfoldable pub serviceHost : List ℕ
 serviceHost = wire ("a" ∷ "srv" ∷ "_sip" ∷ "_udp" ∷ "slocombe" ∷ "example" ∷ [])
 
+-- the five numbers of an SOA with serial 7 and the defaults
+unfoldable pub soaNumbers : List ℕ
+soaNumbers = 0 ∷ 0 ∷ 0 ∷ 7 ∷ 0 ∷ 0 ∷ 0x40 ∷ 0 ∷ 0 ∷ 0 ∷ 8 ∷ 0 ∷ 0 ∷ 0x10 ∷ 0 ∷ 0 ∷ 0 ∷ 0 ∷ 0x0a ∷ 0 ∷ []
+
+-- the SOA and the NS of a `.` line without an address, by the labels of its owner and of its host
+unfoldable pub zone : List String → List String → List ℕ
+zone owner host =
+    let key = wire owner in
+    let soa = wire host ++ wire ("hostmaster" ∷ owner) ++ soaNumbers in
+    lengths (length key) (15 + length soa) ++ key ++ plain 6 soaTtl ++ soa
+    ++ (lengths (length key) (15 + length (wire host)) ++ key ++ plain 2 threeDays ++ wire host)
+
 -- the changeover second as 8 bytes
 unfoldable pub changeover : List ℕ
 changeover = 0x40 ∷ 0 ∷ 0 ∷ 0 ∷ 0x38 ∷ 0xaf ∷ 0x13 ∷ 0x79 ∷ []
@@ -172,8 +186,7 @@ expected =
     (lengths 18 19 ++ button ++ plain 1 day ++ (1 ∷ 8 ∷ 7 ∷ 108 ∷ [])
     ++ lengths 24 33 ++ wire ("108" ∷ "7" ∷ "8" ∷ "1" ∷ "in-addr" ∷ "arpa" ∷ []) ++ plain 12 day ++ button)
     ∷ compiled
-    (lengths 11 77 ++ panic ++ plain 6 soaTtl ++ nsHeaven ++ wire ("hostmaster" ∷ "panic" ∷ "mil" ∷ [])
-    ++ (0 ∷ 0 ∷ 0 ∷ 7 ∷ 0 ∷ 0 ∷ 0x40 ∷ 0 ∷ 0 ∷ 0 ∷ 8 ∷ 0 ∷ 0 ∷ 0x10 ∷ 0 ∷ 0 ∷ 0 ∷ 0 ∷ 0x0a ∷ 0 ∷ [])
+    (lengths 11 77 ++ panic ++ plain 6 soaTtl ++ nsHeaven ++ wire ("hostmaster" ∷ "panic" ∷ "mil" ∷ []) ++ soaNumbers
     ++ lengths 11 35 ++ panic ++ plain 2 threeDays ++ nsHeaven)
     ∷ compiled
     (lengths 15 35 ++ heaven ++ plain 15 day ++ (0 ∷ 0 ∷ []) ++ mxHeaven
@@ -184,26 +197,29 @@ expected =
     ∷ refusedWith (6 ∷ 1 ∷ 2 ∷ 0 ∷ []) 40
     ∷ refusedWith (3 ∷ 2 ∷ 0 ∷ 0 ∷ []) 90
     ∷ record {
-      answer = accepted 60;
+      answer = accepted 158;
       output =
-          lengths 3 19 ++ wire ("w" ∷ []) ++ (0 ∷ 1 ∷ 0x3d ∷ 0 ∷ 0 ∷ 0 ∷ 0 ∷ []) ++ changeover ++ (192 ∷ 0 ∷ 2 ∷ 234 ∷ [])
+          zone ("w" ∷ []) ("ns" ∷ "w" ∷ [])
+          ++ lengths 3 19 ++ wire ("w" ∷ []) ++ (0 ∷ 1 ∷ 0x3d ∷ 0 ∷ 0 ∷ 0 ∷ 0 ∷ []) ++ changeover ++ (192 ∷ 0 ∷ 2 ∷ 234 ∷ [])
           ++ lengths 3 19 ++ wire ("w" ∷ []) ++ (0 ∷ 1 ∷ 0x3d ∷ []) ++ day ++ changeover ++ (192 ∷ 0 ∷ 2 ∷ 235 ∷ []);
-      told = only (0 ∷ 1 ∷ 2 ∷ 26 ∷ 4 ∷ []) (192 ∷ 0 ∷ 2 ∷ 234 ∷ []) ∷ only (0 ∷ 1 ∷ 86400 ∷ 56 ∷ 4 ∷ []) (192 ∷ 0 ∷ 2 ∷ 235 ∷ []) ∷ [];
+      told = only 3 (0 ∷ 1 ∷ 2 ∷ 124 ∷ 4 ∷ []) (192 ∷ 0 ∷ 2 ∷ 234 ∷ []) ∷ only 3 (0 ∷ 1 ∷ 86400 ∷ 154 ∷ 4 ∷ []) (192 ∷ 0 ∷ 2 ∷ 235 ∷ []) ∷ [];
     }
     ∷ record {
-      answer = accepted 90;
+      answer = accepted 188;
       output =
-          lengths 3 21 ++ wire ("a" ∷ []) ++ (0 ∷ 1 ∷ 0x3e ∷ bytes "in") ++ day ++ replicate 8 0 ++ (192 ∷ 0 ∷ 2 ∷ 1 ∷ [])
+          zone ("a" ∷ []) ("ns" ∷ "a" ∷ [])
+          ++ lengths 3 21 ++ wire ("a" ∷ []) ++ (0 ∷ 1 ∷ 0x3e ∷ bytes "in") ++ day ++ replicate 8 0 ++ (192 ∷ 0 ∷ 2 ∷ 1 ∷ [])
           ++ lengths 3 21 ++ wire ("a" ∷ []) ++ (0 ∷ 1 ∷ 0x3e ∷ bytes "ex") ++ day ++ replicate 8 0 ++ (192 ∷ 0 ∷ 2 ∷ 2 ∷ [])
           ++ lengths 4 2 ++ (0 ∷ 0x25 ∷ 192 ∷ 168 ∷ []) ++ bytes "in" ++ lengths 2 2 ++ (0 ∷ 0x25 ∷ []) ++ bytes "ex";
-      told = only (0 ∷ 1 ∷ 86400 ∷ 28 ∷ 4 ∷ []) (192 ∷ 0 ∷ 2 ∷ 1 ∷ []) ∷ only (0 ∷ 1 ∷ 86400 ∷ 60 ∷ 4 ∷ []) (192 ∷ 0 ∷ 2 ∷ 2 ∷ []) ∷ [];
+      told = only 3 (0 ∷ 1 ∷ 86400 ∷ 126 ∷ 4 ∷ []) (192 ∷ 0 ∷ 2 ∷ 1 ∷ []) ∷ only 3 (0 ∷ 1 ∷ 86400 ∷ 158 ∷ 4 ∷ []) (192 ∷ 0 ∷ 2 ∷ 2 ∷ []) ∷ [];
     }
     ∷ record {
-      answer = accepted 99;
+      answer = accepted 267;
       output =
-          lengths 28 19 ++ wire ("pink" ∷ "floyd" ∷ "u" ∷ "heaven" ∷ "af" ∷ "mil" ∷ []) ++ plain 1 day ++ (1 ∷ 2 ∷ 3 ∷ 4 ∷ [])
+          zone ("u" ∷ "heaven" ∷ "af" ∷ "mil" ∷ []) ("ns" ∷ "u" ∷ "heaven" ∷ "af" ∷ "mil" ∷ [])
+          ++ lengths 28 19 ++ wire ("pink" ∷ "floyd" ∷ "u" ∷ "heaven" ∷ "af" ∷ "mil" ∷ []) ++ plain 1 day ++ (1 ∷ 2 ∷ 3 ∷ 4 ∷ [])
           ++ lengths 17 19 ++ wire ("u" ∷ "heaven" ∷ "af" ∷ "mil" ∷ []) ++ (0 ∷ 1 ∷ 0x2a ∷ []) ++ day ++ replicate 8 0 ++ (1 ∷ 2 ∷ 3 ∷ 200 ∷ []);
-      told = only (0 ∷ 1 ∷ 86400 ∷ 95 ∷ 4 ∷ []) (1 ∷ 2 ∷ 3 ∷ 200 ∷ []) ∷ only (0 ∷ 1 ∷ 86400 ∷ 51 ∷ 4 ∷ []) (1 ∷ 2 ∷ 3 ∷ 4 ∷ []) ∷ [];
+      told = only 3 (0 ∷ 1 ∷ 86400 ∷ 263 ∷ 4 ∷ []) (1 ∷ 2 ∷ 3 ∷ 200 ∷ []) ∷ only 3 (0 ∷ 1 ∷ 86400 ∷ 219 ∷ 4 ∷ []) (1 ∷ 2 ∷ 3 ∷ 4 ∷ []) ∷ [];
     }
     ∷ []
 

@@ -6,7 +6,7 @@ use mathlib.Core.List.{List, [], _∷_, _++_, map}
 use lib.ListN.{replicate}
 use Rattle.rules.specs.Texts.{bytes}
 use Rattle.rules.specs.Questions.{Question}
-use Rattle.rules.specs.Bench.{Case, Said, Told, said, wire, lengths, plain, day, accepted, noMore, compiled, refusedWith, compile, asking, changeover}
+use Rattle.rules.specs.Bench.{Case, Said, Told, said, wire, lengths, plain, day, threeDays, accepted, noMore, only, zone, soaNumbers, compiled, refusedWith, compile, asking, changeover}
 
 -- a source of one line that is refused, and its number and field
 unfoldable pub refusals : List (String × ℕ × ℕ)
@@ -51,7 +51,9 @@ unfoldable pub unasked : List ℕ → List ℕ → ℕ → Question
 unasked name client moment = record { name = name; type = 255; client = client; moment = moment }
 
 unfoldable pub refusedAsk : ℕ → List Told
-refusedAsk number = record { numbers = number ∷ 0 ∷ 0 ∷ 0 ∷ 0 ∷ []; rdata = [] } ∷ record { numbers = number ∷ 0 ∷ 0 ∷ 0 ∷ 0 ∷ []; rdata = [] } ∷ []
+refusedAsk number =
+    let told : Told = record { numbers = number ∷ 0 ∷ 0 ∷ 0 ∷ 0 ∷ 0 ∷ []; rdata = [] } in
+    told ∷ told ∷ []
 
 unfoldable pub examples : List Case
 examples =
@@ -67,14 +69,29 @@ examples =
     ∷ compile ("C*.*.B:*.D" ∷ []) 33
     -- an owner's records of another type hold the level; the three refusals of a question come in their order
     ∷ record {
-      lines = "'x.b:hi" ∷ "+*.b:192.0.2.1" ∷ [];
+      lines = ".b::a" ∷ "'x.b:hi" ∷ "+*.b:192.0.2.1" ∷ [];
       serial = 7;
-      room = 61;
+      room = 163;
       questions =
           asking ("x" ∷ "b" ∷ []) (192 ∷ 0 ∷ 2 ∷ 9 ∷ []) 1
           ∷ unasked (1 ∷ 97 ∷ []) [] 0x8000000000000000
           ∷ unasked (0 ∷ []) [] 0x8000000000000000
           ∷ unasked (0 ∷ []) [] 1
+          ∷ [];
+    }
+    -- W8: a wildcard NS and a wildcard above make no name ours; below a delegation and at it; below one that has ended, by the zone's wildcard;
+    -- no level in a zone, though a wildcard stands above it; a zone's own name without that type
+    ∷ record {
+      lines = ".b::a" ∷ "+*:192.0.2.7" ∷ "&d.b::x.y:0:4000000038af1379" ∷ "+*.b:192.0.2.8" ∷ ".c::a" ∷ "&*.f::x.y" ∷ [];
+      serial = 7;
+      room = 326;
+      questions =
+          asking ("g" ∷ "f" ∷ []) (192 ∷ 0 ∷ 2 ∷ 9 ∷ []) 1
+          ∷ asking ("x" ∷ "d" ∷ "b" ∷ []) (192 ∷ 0 ∷ 2 ∷ 9 ∷ []) 1
+          ∷ asking ("d" ∷ "b" ∷ []) (192 ∷ 0 ∷ 2 ∷ 9 ∷ []) 1
+          ∷ asking ("x" ∷ "d" ∷ "b" ∷ []) (192 ∷ 0 ∷ 2 ∷ 9 ∷ []) 0x4000000038af1379
+          ∷ asking ("x" ∷ "c" ∷ []) (192 ∷ 0 ∷ 2 ∷ 9 ∷ []) 1
+          ∷ asking ("b" ∷ []) (192 ∷ 0 ∷ 2 ∷ 9 ∷ []) 1
           ∷ [];
     }
     ∷ []
@@ -87,15 +104,34 @@ examplesExpected =
     (lengths 3 31 ++ wire ("a" ∷ []) ++ plain 28 day ++ documentation ++ lengths 74 18 ++ documentationName ++ plain 12 day ++ wire ("a" ∷ []))
     ∷ compiled
     (lengths 3 54 ++ wire ("b" ∷ []) ++ (0 ∷ 6 ∷ 0x3d ∷ 0 ∷ 0 ∷ 0 ∷ 0 ∷ []) ++ changeover ++ wire ("a" ∷ "b" ∷ []) ++ wire ("hostmaster" ∷ "b" ∷ [])
-    ++ (0 ∷ 0 ∷ 0 ∷ 7 ∷ 0 ∷ 0 ∷ 0x40 ∷ 0 ∷ 0 ∷ 0 ∷ 8 ∷ 0 ∷ 0 ∷ 0x10 ∷ 0 ∷ 0 ∷ 0 ∷ 0 ∷ 0x0a ∷ 0 ∷ [])
+    ++ soaNumbers
     ++ lengths 3 20 ++ wire ("b" ∷ []) ++ (0 ∷ 2 ∷ 0x3d ∷ 0 ∷ 0 ∷ 0 ∷ 0 ∷ []) ++ changeover ++ wire ("a" ∷ "b" ∷ []))
     ∷ compiled (lengths 5 20 ++ wire ("*" ∷ "b" ∷ []) ++ (0 ∷ 5 ∷ 0x2a ∷ []) ++ day ++ replicate 8 0 ++ wire ("*" ∷ "D" ∷ []))
     ∷ record {
-      answer = accepted 61;
+      answer = accepted 163;
       output =
-          lengths 5 18 ++ wire ("x" ∷ "b" ∷ []) ++ plain 16 day ++ (2 ∷ bytes "hi")
+          zone ("b" ∷ []) ("a" ∷ "ns" ∷ "b" ∷ [])
+          ++ lengths 5 18 ++ wire ("x" ∷ "b" ∷ []) ++ plain 16 day ++ (2 ∷ bytes "hi")
           ++ lengths 3 19 ++ wire ("b" ∷ []) ++ (0 ∷ 1 ∷ 0x2a ∷ []) ++ day ++ replicate 8 0 ++ (192 ∷ 0 ∷ 2 ∷ 1 ∷ []);
-      told = (noMore ∷ noMore ∷ []) ∷ refusedAsk 15 ∷ refusedAsk 16 ∷ refusedAsk 17 ∷ [];
+      told = (noMore 4 ∷ noMore 4 ∷ []) ∷ refusedAsk 15 ∷ refusedAsk 16 ∷ refusedAsk 17 ∷ [];
+    }
+    ∷ record {
+      answer = accepted 326;
+      output =
+          zone ("b" ∷ []) ("a" ∷ "ns" ∷ "b" ∷ [])
+          ++ lengths 1 19 ++ (0 ∷ 0 ∷ 1 ∷ 0x2a ∷ []) ++ day ++ replicate 8 0 ++ (192 ∷ 0 ∷ 2 ∷ 7 ∷ [])
+          ++ lengths 5 20 ++ wire ("d" ∷ "b" ∷ []) ++ (0 ∷ 2 ∷ 0x3d ∷ 0 ∷ 0 ∷ 0 ∷ 0 ∷ []) ++ changeover ++ wire ("x" ∷ "y" ∷ [])
+          ++ lengths 3 19 ++ wire ("b" ∷ []) ++ (0 ∷ 1 ∷ 0x2a ∷ []) ++ day ++ replicate 8 0 ++ (192 ∷ 0 ∷ 2 ∷ 8 ∷ [])
+          ++ zone ("c" ∷ []) ("a" ∷ "ns" ∷ "c" ∷ [])
+          ++ lengths 3 20 ++ wire ("f" ∷ []) ++ (0 ∷ 2 ∷ 0x2a ∷ []) ++ threeDays ++ replicate 8 0 ++ wire ("x" ∷ "y" ∷ []);
+      told =
+          (noMore 1 ∷ noMore 1 ∷ [])
+          ∷ only 2 (0 ∷ 2 ∷ 3600 ∷ 158 ∷ 5 ∷ []) (wire ("x" ∷ "y" ∷ []))
+          ∷ only 2 (0 ∷ 2 ∷ 3600 ∷ 158 ∷ 5 ∷ []) (wire ("x" ∷ "y" ∷ []))
+          ∷ only 3 (0 ∷ 1 ∷ 86400 ∷ 189 ∷ 4 ∷ []) (192 ∷ 0 ∷ 2 ∷ 8 ∷ [])
+          ∷ (noMore 5 ∷ noMore 5 ∷ [])
+          ∷ (noMore 4 ∷ noMore 4 ∷ [])
+          ∷ [];
     }
     ∷ []
 

@@ -2,8 +2,10 @@
 use Prim.Native.Nat.{ℕ, zero, suc, _+_, _-_, min, max}
 use mathlib.Core.Bool.{Bool, true, false, not, _&&_, _||_}
 use mathlib.Core.List.{List, [], _∷_, map}
+use mathlib.Core.Option.{Option, none, some}
 use lib.ListN.{length, drop}
 use lib.Dec.{leb, ltb, eqb}
+use Rattle.rules.specs.declared.replies.Outcome.{Outcome}
 use Rattle.rules.specs.Lists.{pick, keep, beginsWith, sameBytes, lower}
 use Rattle.rules.specs.Records.{Record, location, resource}
 use Rattle.rules.specs.Bytes.{wild, size}
@@ -92,17 +94,63 @@ firstFull [] = []
 firstFull ([] ∷ levels) = firstFull levels
 firstFull ((p ∷ ps) ∷ levels) = p ∷ ps
 
+-- W8: "goes no higher than the control name": the ancestors that are no shorter
+unfoldable pub ancestorsTo : List ℕ → List ℕ → List (List ℕ)
+ancestorsTo control name = keep (λ a. leb (length control) (length a)) (ancestors name)
+
 -- "Level: the asked name with its visible ordinary records of any type. If there are none, its ancestors .., with their visible wildcard records"
-unfoldable pub level : List ℕ → List Placed → List Placed
-level name ps = firstFull (keep (λ p. ordinaryOf name (p .rec)) ps ∷ map (λ a. keep (λ p. wildcardOf a (p .rec)) ps) (ancestors name))
+unfoldable pub level : List ℕ → List ℕ → List Placed → List Placed
+level control name ps = firstFull (keep (λ p. ordinaryOf name (p .rec)) ps ∷ map (λ a. keep (λ p. wildcardOf a (p .rec)) ps) (ancestorsTo control name))
 
 -- "a 16-bit type (255: all)"
 unfoldable pub ofType : ℕ → Record → Bool
 ofType asked (location prefix lo) = false
 ofType asked (resource owner type lo ttl time rdata) = eqb asked 255 || eqb asked type
 
--- "Only then the type is applied. The answer is that list in line order"; "letter case ignored"
-unfoldable pub answers : Question → List Placed → List Placed
+-- 02, W8: names that aren't ours
+
+-- the ordinary records of a name and a type
+unfoldable pub ordinaryOfType : ℕ → List ℕ → List Placed → List Placed
+ordinaryOfType type name ps = keep (λ p. ordinaryOf name (p .rec) && ofType type (p .rec)) ps
+
+unfoldable pub isFull : List Placed → Bool
+isFull [] = false
+isFull (p ∷ ps) = true
+
+-- "The control name is the nearest of the asked name and its ancestors with a visible ordinary NS record."
+unfoldable pub controlOf : List Placed → List (List ℕ) → Option (List ℕ)
+controlOf ps [] = none
+controlOf ps (n ∷ ns) =
+    let higher = controlOf ps ns in
+    pick (isFull (ordinaryOfType 2 n ps)) (some n) higher
+
+-- "outcome and list together"
+pub record Result : Type 0 where
+  pub outcome : Outcome
+  pub list : List Placed
+
+-- "records, name without that type (its level has others), unknown name (no level)": by the level and those of the type asked for
+unfoldable pub byLevel : List Placed → List Placed → Result
+byLevel [] wanted = record { outcome = Outcome.NoSuchName; list = [] }
+byLevel (p ∷ ps) [] = record { outcome = Outcome.NoSuchType; list = [] }
+byLevel (p ∷ ps) (w ∷ ws) = record { outcome = Outcome.Records; list = w ∷ ws }
+
+-- "Only then the type is applied."
+unfoldable pub inZone : ℕ → List Placed → Result
+inZone type ps = byLevel ps (keep (λ p. ofType type (p .rec)) ps)
+
+-- "None: not ours, and no records. With a visible ordinary SOA there it is our zone; without, a delegation, and the call hands out that NS
+-- list as a referral, whatever the type."
+unfoldable pub byControl : ℕ → List ℕ → List Placed → Option (List ℕ) → Result
+byControl type name ps none = record { outcome = Outcome.NotOurs; list = [] }
+byControl type name ps (some control) =
+    let zone = inZone type (level control name ps) in
+    pick (isFull (ordinaryOfType 6 control ps)) zone (record { outcome = Outcome.Referral; list = ordinaryOfType 2 control ps })
+
+-- "The answer is that list in line order"; "letter case ignored"
+unfoldable pub answers : Question → List Placed → Result
 answers q ps =
     let here = locationOf (q .client) (map (λ p. p .rec) ps) in
-    keep (λ p. ofType (q .type) (p .rec)) (level (map lower (q .name)) (keep (λ p. visible here (q .moment) (p .rec)) ps))
+    let seen = keep (λ p. visible here (q .moment) (p .rec)) ps in
+    let name = map lower (q .name) in
+    byControl (q .type) name seen (controlOf seen (name ∷ ancestors name))

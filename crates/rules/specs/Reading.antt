@@ -1,18 +1,20 @@
 -- 01, Who sees what: what a reader takes for records, what it refuses, and what asking answers.
 use Prim.Native.Nat.{ℕ, zero, suc, _+_, _-_}
 use mathlib.Core.Bool.{Bool, false, not, _&&_, _||_}
-use mathlib.Core.List.{List, [], _∷_}
+use mathlib.Core.List.{List, [], _∷_, _++_}
 use mathlib.Core.Option.{Option, none, some}
 use lib.ListN.{length, drop, take, getElem?}
 use lib.Dec.{leb, ltb, eqb}
 use Rattle.rules.specs.declared.replies.Reply.{Reply}
 use Rattle.rules.specs.declared.replies.AskFault.{AskFault}
+use Rattle.rules.specs.declared.replies.Outcome.{Outcome}
+use Rattle.rules.specs.declared.replies.Response.{Response}
 use Rattle.rules.specs.Lists.{pick, all, fromLE, fromBE}
 use Rattle.rules.specs.Names.{isWire}
 use Rattle.rules.specs.Fields.{letter, largestTtl}
 use Rattle.rules.specs.Records.{Record, location, resource}
 use Rattle.rules.specs.Bytes.{wild, rdataOf}
-use Rattle.rules.specs.Questions.{Question, Placed, placedFrom, answers, lifetimeOf}
+use Rattle.rules.specs.Questions.{Question, Placed, placedFrom, Result, answers, lifetimeOf}
 
 -- "free of A to Z"
 unfoldable pub lowered : List ℕ → Bool
@@ -106,14 +108,24 @@ replyNumber (Reply.Refused AskFault.Moment) = 16
 replyNumber (Reply.Refused AskFault.Client) = 17
 replyNumber (Reply.Refused AskFault.Records) = 14
 
--- "Asking answers a number, a type, a lifetime, and the place (from 0) and length .. With 18 and every refusal all but the number are 0."
+-- "Asking answers a number, a type, a lifetime, and the place (from 0) and length .. With 18 and every refusal all but the number are 0." (and the outcome: W8)
 abbrev pub replyValues : Reply → List ℕ
 replyValues (Reply.Found type lifetime place count) = type ∷ lifetime .0 ∷ place ∷ count ∷ []
 replyValues Reply.NoMore = 0 ∷ 0 ∷ 0 ∷ 0 ∷ []
 replyValues (Reply.Refused fault) = 0 ∷ 0 ∷ 0 ∷ 0 ∷ []
 
-unfoldable pub replyNumbers : Reply → List ℕ
-replyNumbers r = replyNumber r ∷ replyValues r
+-- W8: "The outcomes, 1 to 5"
+abbrev pub outcomeNumber : Outcome → ℕ
+outcomeNumber Outcome.Refused = 0
+outcomeNumber Outcome.NotOurs = 1
+outcomeNumber Outcome.Referral = 2
+outcomeNumber Outcome.Records = 3
+outcomeNumber Outcome.NoSuchType = 4
+outcomeNumber Outcome.NoSuchName = 5
+
+-- "The outcome is the answer's last number .., given with 0 and 18, and 0 on a refusal."
+unfoldable pub responseNumbers : Response → List ℕ
+responseNumbers r = replyNumber (r .reply) ∷ replyValues (r .reply) ++ (outcomeNumber (r .outcome) ∷ [])
 
 unfoldable pub typeOf : Record → ℕ
 typeOf (location prefix lo) = 0
@@ -125,23 +137,30 @@ replyOf moment none = Reply.NoMore
 replyOf moment (some p) =
     Reply.Found (typeOf (p .rec)) (record { 0 = lifetimeOf moment (p .rec) }) (p .end - length (rdataOf (p .rec))) (length (rdataOf (p .rec)))
 
--- "the ordinal picks one, or the call says 18": the rules of asking over a list of records
-unfoldable pub replyFrom : List Record → Question → ℕ → Reply
-replyFrom rs q ordinal = replyOf (q .moment) (getElem? (answers q (placedFrom 0 rs)) ordinal)
+-- "the ordinal picks one, or the call says 18"
+unfoldable pub responseOf : ℕ → Result → ℕ → Response
+responseOf moment result ordinal = record { outcome = result .outcome; reply = replyOf moment (getElem? (result .list) ordinal) }
 
-unfoldable pub replyDecoded : Option (List Record) → Question → ℕ → Reply
-replyDecoded none q ordinal = Reply.Refused AskFault.Records
-replyDecoded (some rs) q ordinal = replyFrom rs q ordinal
+-- the rules of asking over a list of records
+unfoldable pub responseFrom : List Record → Question → ℕ → Response
+responseFrom rs q ordinal = responseOf (q .moment) (answers q (placedFrom 0 rs)) ordinal
+
+unfoldable pub refusal : AskFault → Response
+refusal fault = record { outcome = Outcome.Refused; reply = Reply.Refused fault }
+
+unfoldable pub responseDecoded : Option (List Record) → Question → ℕ → Response
+responseDecoded none q ordinal = refusal AskFault.Records
+responseDecoded (some rs) q ordinal = responseFrom rs q ordinal
 
 -- "a client address of 4 or 16 bytes"
 unfoldable pub isClient : List ℕ → Bool
 isClient client = eqb (length client) 4 || eqb (length client) 16
 
 -- what asking answers: "It refuses, in this order: 15 .. 16 .. 17 .. 14"
-unfoldable pub askReply : List ℕ → Question → ℕ → Reply
-askReply stream q ordinal =
-    let decoded = replyDecoded (decode stream) q ordinal in
-    pick (not (isWire (q .name))) (Reply.Refused AskFault.Name)
-    (pick (leb momentEnd (q .moment)) (Reply.Refused AskFault.Moment)
-    (pick (not (isClient (q .client))) (Reply.Refused AskFault.Client)
+unfoldable pub askResponse : List ℕ → Question → ℕ → Response
+askResponse stream q ordinal =
+    let decoded = responseDecoded (decode stream) q ordinal in
+    pick (not (isWire (q .name))) (refusal AskFault.Name)
+    (pick (leb momentEnd (q .moment)) (refusal AskFault.Moment)
+    (pick (not (isClient (q .client))) (refusal AskFault.Client)
     decoded))

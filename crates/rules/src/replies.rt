@@ -20,3 +20,21 @@ pub enum Reply {
     NoMore,
     Refused(AskFault),
 }
+
+// The outcome of a question: whether the name is ours, and what is known of it.
+pub enum Outcome {
+    // none: the question was refused
+    Refused,
+    NotOurs,
+    Referral,
+    Records,
+    // a name without that type: its level has others
+    NoSuchType,
+    NoSuchName,
+}
+
+// What asking says of one ordinal. The outcome is the question's, the same at every ordinal.
+pub struct Response {
+    pub outcome: Outcome,
+    pub reply: Reply,
+}

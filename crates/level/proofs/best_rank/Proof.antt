@@ -14,11 +14,11 @@ use Rattle.level.proofs.best_rank.Statement.{statement}
 use Rattle.level.proofs.best_rank.Tie as tie
 
 abbrev Inv-loop : tie.InvT-loop
-Inv-loop stream name here moment from n best₀ at₀ best at = (at ≤ length stream) × (isSome (decode (drop at stream)) ≡ true)
-    × (max best (largest (seenRank (map lower name) (loBytes here) (moment .0)) (valueOr [] (decode (drop at stream)))) ≡ largest (seenRank (map lower name) (loBytes here) (moment .0)) (valueOr [] (decode (drop from stream))))
+Inv-loop stream name role here moment from n best₀ at₀ best at = (at ≤ length stream) × (isSome (decode (drop at stream)) ≡ true)
+    × (max best (largest (seenRank role (map lower name) (loBytes here) (moment .0)) (valueOr [] (decode (drop at stream)))) ≡ largest (seenRank role (map lower name) (loBytes here) (moment .0)) (valueOr [] (decode (drop from stream))))
 
 abbrev μ-loop : tie.MeasureT-loop
-μ-loop stream name here moment from n best₀ at₀ best at = length stream - at
+μ-loop stream name role here moment from n best₀ at₀ best at = length stream - at
 
 loop-holds : tie.Need-loop-holds Inv-loop μ-loop
 loop-holds c = search best·laws
@@ -27,7 +27,7 @@ returns : tie.Need-returns Inv-loop μ-loop
 returns c =
     let l = c .before .before in
     let s = l .before .before .before in
-    most _ _ _ (now (s .args .stream)) _ (l .loop .at) _ (s .pre .0) (l .loop .inv .2) (c .if1 .taken)
+    most _ _ _ _ (now (s .args .stream)) _ (l .loop .at) _ (s .pre .0) (l .loop .inv .2) (c .if1 .taken)
 
 span-at-requires : tie.Need-span-at-requires Inv-loop μ-loop
 span-at-requires c κs = search best·laws

@@ -17,11 +17,14 @@ better-in-requires c κs = search step·laws
 enum-known-wild : tie.Need-enum-known-wild
 enum-known-wild c = search step·laws
 
-may-answer-requires : tie.Need-may-answer-requires
-may-answer-requires c κs = search step·laws
+is-end-requires : tie.Need-is-end-requires
+is-end-requires c κs = search step·laws
 
 returns : tie.Need-returns
 returns c = search step·laws
+
+related-step-requires : tie.Need-related-step-requires
+related-step-requires c κs = search step·laws
 
 returns-2 : tie.Need-returns-2
 returns-2 c = search step·laws
@@ -41,8 +44,9 @@ step-in-spec =
     enum-known-found
     better-in-requires
     enum-known-wild
-    may-answer-requires
+    is-end-requires
     returns
+    related-step-requires
     returns-2
     returns-3
     returns-4)

@@ -6,7 +6,7 @@ rank-in-requires : tie.Need-rank-in-requires
 rank-in-requires c κs = search wanted·laws
 
 returns : tie.Need-returns
-returns c = other-rank _ _ _ _ _ _ _ _ (c .before .rank-in .ensures) (c .if1 .taken)
+returns c = other-rank _ _ _ _ _ _ _ _ _ (c .before .rank-in .ensures) (c .if1 .taken)
 
 known-in-requires : tie.Need-known-in-requires
 known-in-requires c κs = search wanted·laws
@@ -25,7 +25,7 @@ returns-2 c =
     let r = c .before .before in
     let k = r .before .before in
     let l = k .before in
-    any-type _ _ _ _ _ _ _ _ (l .before .rank-in .ensures) _ (k .known-in .ensures .0) (l .if1 .left) _ _ _ _ (r .rtype .given .1) (c .if2 .taken)
+    any-type _ _ _ _ _ _ _ _ _ (l .before .rank-in .ensures) _ (k .known-in .ensures .0) (l .if1 .left) _ _ _ _ (r .rtype .given .1) (c .if2 .taken)
 
 returns-3 : tie.Need-returns-3
 returns-3 c = search wanted·laws
@@ -38,7 +38,7 @@ returns-5 c =
     let r = c .before .before in
     let k = r .before .before in
     let l = k .before in
-    this-type _ _ _ _ _ _ _ _ (l .before .rank-in .ensures) _ (k .known-in .ensures .0) (l .if1 .left) _ _ _ _ (r .rtype .given .1) (c .if2 .left)
+    this-type _ _ _ _ _ _ _ _ _ (l .before .rank-in .ensures) _ (k .known-in .ensures .0) (l .if1 .left) _ _ _ _ (r .rtype .given .1) (c .if2 .left)
 
 pub is-wanted-spec : {M : Type 1} → statement M
 is-wanted-spec =

@@ -12,12 +12,12 @@ use Rattle.picks.proofs.pick_record.Statement.{statement}
 use Rattle.picks.proofs.pick_record.Tie as tie
 
 abbrev Inv-loop : tie.InvT-loop
-Inv-loop stream name qtype here moment best ordinal from n left₀ at₀ left at = (at ≤ length stream) × (isSome (decode (drop at stream)) ≡ true)
-    × (pickedFrom qtype (map lower name) (loBytes here) (moment .0) best at left (valueOr [] (decode (drop at stream)))
-    ≡ pickedFrom qtype (map lower name) (loBytes here) (moment .0) best from ordinal (valueOr [] (decode (drop from stream))))
+Inv-loop stream name qtype role here moment best ordinal from n left₀ at₀ left at = (at ≤ length stream) × (isSome (decode (drop at stream)) ≡ true)
+    × (pickedFrom qtype role (map lower name) (loBytes here) (moment .0) best at left (valueOr [] (decode (drop at stream)))
+    ≡ pickedFrom qtype role (map lower name) (loBytes here) (moment .0) best from ordinal (valueOr [] (decode (drop from stream))))
 
 abbrev μ-loop : tie.MeasureT-loop
-μ-loop stream name qtype here moment best ordinal from n left₀ at₀ left at = length stream - at
+μ-loop stream name qtype role here moment best ordinal from n left₀ at₀ left at = length stream - at
 
 loop-holds : tie.Need-loop-holds Inv-loop μ-loop
 loop-holds c =

@@ -26,8 +26,8 @@ visible-requires c κs = search rank-in·laws
 returns-2 : tie.Need-returns-2
 returns-2 c = search rank-in·laws
 
-rank-requires : tie.Need-rank-requires
-rank-requires c κs = search rank-in·laws
+role-rank-requires : tie.Need-role-rank-requires
+role-rank-requires c κs = search rank-in·laws
 
 returns-3 : tie.Need-returns-3
 returns-3 c = search rank-in·laws
@@ -39,7 +39,7 @@ returns-5 : tie.Need-returns-5
 returns-5 c =
     let v = c .before .before in
     let w = v .before .before in
-    seen-one _ _ _ _ _ _ (w .before .before .known-in .ensures .0) _ _ _ _ (w .wild .given .1) _ (v .visible .ensures) _ (c .before .if2 .left) (c .rank .ensures)
+    seen-one _ _ _ _ _ _ _ (w .before .before .known-in .ensures .0) _ _ _ _ (w .wild .given .1) _ (v .visible .ensures) _ (c .before .if2 .left) (c .role-rank .ensures)
 
 pub rank-in-spec : {M : Type 1} → statement M
 rank-in-spec =
@@ -53,7 +53,7 @@ rank-in-spec =
     enum-known-wild
     visible-requires
     returns-2
-    rank-requires
+    role-rank-requires
     returns-3
     returns-4
     returns-5)
