@@ -8,13 +8,13 @@ use lib.Dec.{eqb}
 use Rattle.rules.specs.declared.faults.Answer.{Answer}
 use Rattle.rules.specs.declared.faults.Fault.{Fault}
 use Rattle.rules.specs.Lists.{pick}
-use Rattle.rules.specs.Answers.{faultNumber, answer, compileAnswer, compileOutput}
+use Rattle.rules.specs.Answers.{faultNumber, answer, sourceRecords, compileAnswer, compileOutput}
 use Rattle.rules.specs.Questions.{Question}
-use Rattle.rules.specs.Reading.{askReply}
-use Rattle.rules.specs.Demands.{Accepted, bytesNeeded, CompilingRefusesExactly, compiledBytes, CompilingKeepsTheMeaning}
+use Rattle.rules.specs.Reading.{askResponse}
+use Rattle.rules.specs.Demands.{Accepted, bytesNeeded, CompilingRefusesExactly, compiledBytes, Tells, CompilingKeepsTheMeaning}
 use Rattle.rules.proofs.Refusals.{refuses-exactly}
 use Rattle.rules.proofs.Meaning.{keeps-the-meaning}
-use Rattle.vahmizar.specs.Promises.{TheCallRefusesExactly, Askable, Tells, TheCallsKeepTheMeaning}
+use Rattle.vahmizar.specs.Promises.{TheCallRefusesExactly, Askable, TheCallsKeepTheMeaning}
 
 -- past the check of the answer's length
 past {ℓ} : {A : Type ℓ} (n : ℕ) (s : List ℕ) (x y z : A) → length s ≡ n → x ≡ pick (eqb (length s) n) y z → x ≡ y
@@ -40,25 +40,25 @@ module _ (source : List ℕ) (serial : ℕ) (out : List ℕ) (accepted : Accepte
   unfolding compiledBytes answer
   bytes-are = rw is-done
 
-  tells : (q : Question) (ordinal : ℕ) → Askable q → Tells source serial (compiledBytes source serial out) q ordinal (askReply (compiledBytes source serial out) q ordinal)
-  unfolding Tells CompilingKeepsTheMeaning
+  tells : (q : Question) (ordinal : ℕ) → Askable q → Tells (compiledBytes source serial out) (sourceRecords serial source) q ordinal (askResponse (compiledBytes source serial out) q ordinal)
+  unfolding CompilingKeepsTheMeaning
   tells q ordinal a = keeps-the-meaning source serial out q ordinal accepted room (a .name) (a .moment) (a .client)
 
   -- the same of a buffer that holds what compiling leaves
   pub tells-in : (out′ : List ℕ) → out′ ≡ compileOutput source serial out → (q : Question) (ordinal : ℕ) → Askable q
-      → Tells source serial (take (bytesNeeded serial source) out′) q ordinal (askReply (take (bytesNeeded serial source) out′) q ordinal)
+      → Tells (take (bytesNeeded serial source) out′) (sourceRecords serial source) q ordinal (askResponse (take (bytesNeeded serial source) out′) q ordinal)
   tells-in out′ e q ordinal a =
       let same : compiledBytes source serial out ≡ take (bytesNeeded serial source) out′ = sym bytes-are ∙ ap (take (bytesNeeded serial source)) (sym e) in
-      subst (λ (b : List ℕ). Tells source serial b q ordinal (askReply b q ordinal)) same (tells q ordinal a)
+      subst (λ (b : List ℕ). Tells b (sourceRecords serial source) q ordinal (askResponse b q ordinal)) same (tells q ordinal a)
 
 pub the-calls-keep-the-meaning : TheCallsKeepTheMeaning
 unfolding TheCallsKeepTheMeaning answer
 the-calls-keep-the-meaning source serial out s out′ s′ r q ordinal t t′ m c h accepted room a k askable = (
   past 32 s _ _ _ h (c .number) ∙ ap (λ (x : Answer). faultNumber (x .fault)) (is-done source serial out accepted room),
   record {
-    reply = askReply (take (bytesNeeded serial source) out′) q ordinal;
-    first = past 40 t _ _ _ k (a .number);
-    rest = past 40 t _ _ _ k (a .numbers);
+    said = askResponse (take (bytesNeeded serial source) out′) q ordinal;
+    first = past 48 t _ _ _ k (a .number);
+    rest = past 48 t _ _ _ k (a .numbers);
     tells = tells-in source serial out accepted room out′ (past 32 s _ _ _ h (c .output)) q ordinal askable;
   },
 )

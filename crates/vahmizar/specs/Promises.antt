@@ -3,17 +3,17 @@ use Prim.Native.Nat.{ℕ, _≤_, _<_}
 use mathlib.Core.Path.{_≡_}
 use mathlib.Core.List.{List, map}
 use mathlib.Core.Logic.{_⊎_}
-use lib.ListN.{length, take, getElem?}
+use lib.ListN.{length, take}
 use lib.Dec.{T, eqb}
 use Rattle.rules.specs.declared.faults.Answer.{Answer}
-use Rattle.rules.specs.declared.replies.Reply.{Reply}
+use Rattle.rules.specs.declared.replies.Response.{Response}
 use Rattle.rules.specs.Lists.{pick, joinAll, le}
 use Rattle.rules.specs.Names.{isWire}
 use Rattle.rules.specs.Answers.{faultNumber, numbersOf, isDone, sourceRecords, compileAnswer, compileOutput}
-use Rattle.rules.specs.Questions.{Question, placedFrom, answers}
-use Rattle.rules.specs.Reading.{momentEnd, replyNumber, replyNumbers, askReply}
-use Rattle.rules.specs.Demands.{Accepted, bytesNeeded, RefusesExactly, compiledBytes, Gives}
-use Rattle.vahmizar.specs.declared.outcomes.Outcome.{Outcome}
+use Rattle.rules.specs.Questions.{Question}
+use Rattle.rules.specs.Reading.{momentEnd, replyNumber, responseNumbers, askResponse}
+use Rattle.rules.specs.Demands.{Accepted, bytesNeeded, RefusesExactly, compiledBytes, Tells}
+use Rattle.vahmizar.specs.declared.served.Served.{Served}
 
 -- an answer's numbers in its lent slice: "8 bytes each, little-endian, in the order named above"
 unfoldable pub laid : List ℕ → List ℕ
@@ -31,8 +31,8 @@ pub record Compiles (source : List ℕ) (serial : ℕ) (out answer out′ answer
 -- tinydns_ask: it writes to no buffer but `answer`.
 -- Rules out: an answer out of a stream with a damaged record behind it; numbers left over in the answer of a refusal.
 pub record Asks (records : List ℕ) (q : Question) (ordinal : ℕ) (answer answer′ : List ℕ) (r : ℕ) : Type 0 where
-  pub number : r ≡ pick (eqb (length answer) 40) (replyNumber (askReply records q ordinal)) 19
-  pub numbers : answer′ ≡ pick (eqb (length answer) 40) (laid (replyNumbers (askReply records q ordinal))) answer
+  pub number : r ≡ pick (eqb (length answer) 48) (replyNumber (askResponse records q ordinal .reply)) 19
+  pub numbers : answer′ ≡ pick (eqb (length answer) 48) (laid (responseNumbers (askResponse records q ordinal))) answer
 
 -- ---- Demand 2, and the rule for 13: a refusal is given exactly where its cause is, and names the first bad line
 
@@ -57,16 +57,12 @@ pub record Askable (q : Question) : Type 0 where
   pub moment : q .moment < momentEnd
   pub client : (length (q .client) ≡ 4) ⊎ (length (q .client) ≡ 16)
 
--- the reply to a question over what stands in the lines: the record at this ordinal, or 18
-unfoldable pub Tells : List ℕ → ℕ → List ℕ → Question → ℕ → Reply → Type 0
-Tells source serial bytes q ordinal reply = Gives bytes (q .moment) (getElem? (answers q (placedFrom 0 (sourceRecords serial source))) ordinal) reply
-
--- what a call of tinydns_ask answered, read back from its numbers
+-- what a call of tinydns_ask answered, read back from its numbers: outcome and list together
 pub record Told (source : List ℕ) (serial : ℕ) (bytes : List ℕ) (q : Question) (ordinal : ℕ) (answer′ : List ℕ) (r : ℕ) : Type 0 where
-  pub reply : Reply
-  pub first : r ≡ replyNumber reply
-  pub rest : answer′ ≡ laid (replyNumbers reply)
-  pub tells : Tells source serial bytes q ordinal reply
+  pub said : Response
+  pub first : r ≡ replyNumber (said .reply)
+  pub rest : answer′ ≡ laid (responseNumbers said)
+  pub tells : Tells bytes (sourceRecords serial source) q ordinal said
 
 -- One claim over both calls: compiled with room enough, and asked on exactly the bytes that were written.
 -- Rules out: a reader that says "no more" at once, or gives only ordinal 0 truly; a compiler and a reader that agree on wrong records.
@@ -78,26 +74,26 @@ TheCallsKeepTheMeaning =
     → Accepted source
     → bytesNeeded serial source ≤ length out
     → Asks (take (bytesNeeded serial source) out′) q ordinal asked asked′ s
-    → length asked ≡ 40
+    → length asked ≡ 48
     → Askable q
     → (r ≡ 0) × Told source serial (take (bytesNeeded serial source) out′) q ordinal asked′ s
 
 -- ---- The same over running code: compile_and_ask compiles into `out`, then asks exactly what it wrote there
 
 -- the numbers of what was answered, by the call that answered it
-unfoldable pub outcomeNumbers : Outcome → List ℕ
-outcomeNumbers (Outcome.NotCompiled answer) = numbersOf answer
-outcomeNumbers (Outcome.Asked reply) = replyNumbers reply
+unfoldable pub servedNumbers : Served → List ℕ
+servedNumbers (Served.NotCompiled answer) = numbersOf answer
+servedNumbers (Served.Asked response) = responseNumbers response
 
 -- Rules out: a question put to another part of `out` than was written; only the first record asked for, whatever the ordinal.
-pub record Serves (source : List ℕ) (serial : ℕ) (out : List ℕ) (q : Question) (ordinal : ℕ) (out′ : List ℕ) (r : Outcome) : Type 0 where
-  pub outcome :
-      r ≡ pick (isDone (compileAnswer source serial (length out) .fault)) (Outcome.Asked (askReply (compiledBytes source serial out) q ordinal))
-      (Outcome.NotCompiled (compileAnswer source serial (length out)))
+pub record Serves (source : List ℕ) (serial : ℕ) (out : List ℕ) (q : Question) (ordinal : ℕ) (out′ : List ℕ) (r : Served) : Type 0 where
+  pub served :
+      r ≡ pick (isDone (compileAnswer source serial (length out) .fault)) (Served.Asked (askResponse (compiledBytes source serial out) q ordinal))
+      (Served.NotCompiled (compileAnswer source serial (length out)))
   pub numbers :
-      outcomeNumbers r ≡ pick (isDone (compileAnswer source serial (length out) .fault)) (replyNumbers (askReply (compiledBytes source serial out) q ordinal))
+      servedNumbers r ≡ pick (isDone (compileAnswer source serial (length out) .fault)) (responseNumbers (askResponse (compiledBytes source serial out) q ordinal))
       (numbersOf (compileAnswer source serial (length out)))
   pub output : out′ ≡ compileOutput source serial out
   pub meaning :
       Accepted source → bytesNeeded serial source ≤ length out → Askable q
-      → (reply : Reply) × ((r ≡ Outcome.Asked reply) × Tells source serial (take (bytesNeeded serial source) out′) q ordinal reply)
+      → (said : Response) × ((r ≡ Served.Asked said) × Tells (take (bytesNeeded serial source) out′) (sourceRecords serial source) q ordinal said)

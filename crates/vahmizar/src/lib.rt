@@ -2,11 +2,11 @@
 ghost use Rattle.vahmizar.specs.Promises.{Compiles, Asks};
 
 mod numbers;
-pub mod outcomes;
+pub mod served;
 
 use compiler::compile::compile;
 use numbers::put_four;
-use numbers::put_reply;
+use numbers::put_response;
 use reader::ask;
 use refusals::faults::number;
 use rules::quantities::Moment;
@@ -37,7 +37,7 @@ pub extern "C" fn tinydns_compile(
     first
 }
 
-// Asks for the record of an ordinal; the reply's numbers go into 40 lent bytes, and the first is returned.
+// Asks for the record of an ordinal; the answer's numbers go into 48 lent bytes, the outcome last, and the first is returned.
 #[no_mangle]
 pub extern "C" fn tinydns_ask(
     records: &[u8],
@@ -50,9 +50,9 @@ pub extern "C" fn tinydns_ask(
 ) -> u64
     ensures { λ r. ⌜ Asks (now (records .entry)) (record { name = now (name .entry); type = qtype; client = now (client .entry); moment = moment }) ordinal (now (answer .entry)) (now (answer .exit)) r ⌝ }
 {
-    if answer.len() != 40 {
+    if answer.len() != 48 {
         return 19;
     }
-    let reply = ask(records, name, qtype, client, Moment(moment), ordinal);
-    put_reply(answer, reply)
+    let response = ask(records, name, qtype, client, Moment(moment), ordinal);
+    put_response(answer, response)
 }

@@ -9,26 +9,26 @@ reply-number-requires c κs = search needs
 enum-known-reply : tie.Need-enum-known-reply
 enum-known-reply c = search needs
 
-cast-put-five : tie.Need-cast-put-five
-cast-put-five c = search needs
+cast-put-six : tie.Need-cast-put-six
+cast-put-six c = search needs
 
-cast-put-five-2 : tie.Need-cast-put-five-2
-cast-put-five-2 c = search needs
+cast-put-six-2 : tie.Need-cast-put-six-2
+cast-put-six-2 c = search needs
 
-put-five-requires : tie.Need-put-five-requires
-put-five-requires c κs = search needs
+put-six-requires : tie.Need-put-six-requires
+put-six-requires c κs = search needs
 
 enum-told : tie.Need-enum-told
 enum-told c = search needs
 
-put-five-requires-2 : tie.Need-put-five-requires-2
-put-five-requires-2 c κs = search needs
+put-six-requires-2 : tie.Need-put-six-requires-2
+put-six-requires-2 c κs = search needs
 
 enum-told-2 : tie.Need-enum-told-2
 enum-told-2 c = search needs
 
-put-five-requires-3 : tie.Need-put-five-requires-3
-put-five-requires-3 c κs = search needs
+put-six-requires-3 : tie.Need-put-six-requires-3
+put-six-requires-3 c κs = search needs
 
 same-length : tie.Need-same-length
 same-length c = search needs
@@ -54,13 +54,13 @@ put-reply-spec =
     (tie.spec
     reply-number-requires
     enum-known-reply
-    cast-put-five
-    cast-put-five-2
-    put-five-requires
+    cast-put-six
+    cast-put-six-2
+    put-six-requires
     enum-told
-    put-five-requires-2
+    put-six-requires-2
     enum-told-2
-    put-five-requires-3
+    put-six-requires-3
     same-length
     returns
     same-length-2

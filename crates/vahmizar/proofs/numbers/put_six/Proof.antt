@@ -1,10 +1,10 @@
 use Rattle.buffer.proofs.Puts.{then-is}
 use borrow.Author.Needs.{needs}
-use Rattle.vahmizar.proofs.numbers.put_five.Statement.{statement}
-use Rattle.vahmizar.proofs.numbers.put_five.Tie as tie
+use Rattle.vahmizar.proofs.numbers.put_six.Statement.{statement}
+use Rattle.vahmizar.proofs.numbers.put_six.Tie as tie
 
-put-le-requires : tie.Need-put-le-requires
-put-le-requires c κs = search needs
+put-pair-requires : tie.Need-put-pair-requires
+put-pair-requires c κs = search needs
 
 sub-put-four : tie.Need-sub-put-four
 sub-put-four c = search needs
@@ -27,11 +27,11 @@ same-length c = search needs
 returns : tie.Need-returns
 returns c = search (needs, then-is)
 
-pub put-five-spec : {M : Type 1} → statement M
-put-five-spec =
+pub put-six-spec : {M : Type 1} → statement M
+put-six-spec =
     tie.close
     (tie.spec
-    put-le-requires
+    put-pair-requires
     sub-put-four
     part-put-four-start
     part-put-four-end

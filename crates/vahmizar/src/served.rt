@@ -1,8 +1,8 @@
 // What compiling a source and then asking what was written answers.
 use rules::faults::Answer;
-use rules::replies::Reply;
+use rules::replies::Response;
 
-pub enum Outcome {
+pub enum Served {
     NotCompiled(Answer),
-    Asked(Reply),
+    Asked(Response),
 }
