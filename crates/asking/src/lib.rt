@@ -1,9 +1,9 @@
 // Asking by a reader that holds the bytes.
 ghost use mathlib.Core.Path.{_≡_};
-ghost use Rattle.rules.specs.Reading.{askReply};
+ghost use Rattle.rules.specs.Reading.{askResponse};
 use held::Reader;
 use rules::quantities::Moment;
-use rules::replies::Reply;
+use rules::replies::Response;
 
 // The record of this ordinal, from 0, in the answer to a question to the bytes that are held, wherever the reader's place is.
 pub fn ask<'a, 'b, 'c>(
@@ -13,8 +13,8 @@ pub fn ask<'a, 'b, 'c>(
     client: &'c [u8],
     moment: Moment,
     ordinal: u64,
-) -> Reply
-    ensures { λ x. ⌜ x ≡ askReply (now (r .entry .bytes)) (record { name = now (name .entry); type = qtype; client = now (client .entry); moment = moment .0 }) ordinal ⌝ }
+) -> Response
+    ensures { λ x. ⌜ x ≡ askResponse (now (r .entry .bytes)) (record { name = now (name .entry); type = qtype; client = now (client .entry); moment = moment .0 }) ordinal ⌝ }
 {
     reader::ask(r.bytes, name, qtype, client, moment, ordinal)
 }

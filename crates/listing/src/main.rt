@@ -8,11 +8,13 @@ use held::nth;
 use libc::STDOUT_FILENO;
 use places::Found;
 use refusals::faults::number;
+use refusals::replies::outcome_number;
 use refusals::replies::reply_number;
 use rules::quantities::Moment;
 use rules::replies::Reply;
+use rules::replies::Response;
 use serving::compile_and_ask;
-use vahmizar::outcomes::Outcome;
+use vahmizar::served::Served;
 
 fn print_number(n: u64) {
     io::write_all(STDOUT_FILENO, b" ");
@@ -53,6 +55,12 @@ fn list_records(source: &[u8], out: &mut [u8]) {
     print_places(&out[..len]);
 }
 
+// The numbers of no record; no more follows.
+fn print_nothing() -> bool {
+    io::write_all(STDOUT_FILENO, b" 0 0 0 0");
+    false
+}
+
 // Whether there may be more.
 fn print_reply(reply: Reply) -> bool {
     print_number(reply_number(reply));
@@ -69,19 +77,28 @@ fn print_reply(reply: Reply) -> bool {
             print_number(length as u64);
             true
         },
-        Reply::NoMore => false,
-        Reply::Refused(_) => false,
+        Reply::NoMore => print_nothing(),
+        Reply::Refused(_) => print_nothing(),
     }
 }
 
-fn print_outcome(outcome: Outcome) -> bool {
-    match outcome {
-        Outcome::NotCompiled(answer) => {
+// The outcome comes last, as in the answer of the call.
+fn print_response(response: Response) -> bool {
+    let reply = response.reply;
+    let outcome = response.outcome;
+    let more = print_reply(reply);
+    print_number(outcome_number(outcome));
+    more
+}
+
+fn print_served(served: Served) -> bool {
+    match served {
+        Served::NotCompiled(answer) => {
             let fault = answer.fault;
             print_number(number(fault));
             false
         },
-        Outcome::Asked(reply) => print_reply(reply),
+        Served::Asked(response) => print_response(response),
     }
 }
 
@@ -93,7 +110,7 @@ fn ask_all(source: &[u8], out: &mut [u8]) {
         if !more {
             return;
         }
-        let outcome = compile_and_ask(
+        let served = compile_and_ask(
             source,
             1000,
             out,
@@ -103,7 +120,7 @@ fn ask_all(source: &[u8], out: &mut [u8]) {
             Moment(4611686020038557696),
             ordinal,
         );
-        more = print_outcome(outcome);
+        more = print_served(served);
         io::write_all(STDOUT_FILENO, b"\n");
         ordinal += 1;
     }

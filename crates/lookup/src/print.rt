@@ -10,7 +10,9 @@ use questions::questions::LineReply;
 use questions::questions::answer_line;
 use refusals::replies::reply_number;
 use rules::quantities::Ttl;
+use rules::replies::Outcome;
 use rules::replies::Reply;
+use rules::replies::Response;
 
 // What came of printing a record: more may follow, or none can, or standard output didn't take all.
 enum Printed {
@@ -41,11 +43,19 @@ fn print_refusal(number: u64) -> bool {
     a & b & c
 }
 
-fn print_none(ordinal: u64) -> bool {
-    if ordinal == 0 {
-        return io::write_all(STDOUT_FILENO, b"  none\n");
+// The outcome stands once, above the first record. A refusal has none.
+fn print_outcome(outcome: Outcome, ordinal: u64) -> bool {
+    if 0 < ordinal {
+        return true;
     }
-    true
+    match outcome {
+        Outcome::Refused => true,
+        Outcome::NotOurs => io::write_all(STDOUT_FILENO, b"  not ours\n"),
+        Outcome::Referral => io::write_all(STDOUT_FILENO, b"  referral\n"),
+        Outcome::Records => io::write_all(STDOUT_FILENO, b"  records\n"),
+        Outcome::NoSuchType => io::write_all(STDOUT_FILENO, b"  no such type\n"),
+        Outcome::NoSuchName => io::write_all(STDOUT_FILENO, b"  no such name\n"),
+    }
 }
 
 fn last(written: bool) -> Printed {
@@ -55,7 +65,7 @@ fn last(written: bool) -> Printed {
     Printed::Unwritten
 }
 
-fn print_reply(records: &[u8], reply: Reply, ordinal: u64) -> Printed
+fn print_reply(records: &[u8], reply: Reply) -> Printed
     requires { ⌜ Inside (now records) reply ⌝ }
 {
     match reply {
@@ -70,12 +80,23 @@ fn print_reply(records: &[u8], reply: Reply, ordinal: u64) -> Printed
             }
             Printed::Unwritten
         },
-        Reply::NoMore => last(print_none(ordinal)),
+        Reply::NoMore => Printed::Last,
         Reply::Refused(_) => last(print_refusal(reply_number(reply))),
     }
 }
 
-// The question stands once, above its first record.
+fn print_response(records: &[u8], response: Response, ordinal: u64) -> Printed
+    requires { ⌜ Inside (now records) (response .reply) ⌝ }
+{
+    let outcome = response.outcome;
+    let reply = response.reply;
+    if !print_outcome(outcome, ordinal) {
+        return Printed::Unwritten;
+    }
+    print_reply(records, reply)
+}
+
+// The question stands once, above its outcome.
 fn print_question(line: &[u8], ordinal: u64) -> bool {
     if ordinal == 0 {
         let a = io::write_all(STDOUT_FILENO, line);
@@ -98,11 +119,11 @@ fn refuse_line(path: &[u8], number: u64) {
 // The record of this ordinal.
 fn print_answer(records: &[u8], path: &[u8], number: u64, line: &[u8], ordinal: u64) -> Printed {
     match answer_line(records, line, ordinal) {
-        LineReply::Answered(reply) => {
+        LineReply::Answered(response) => {
             if !print_question(line, ordinal) {
                 return Printed::Unwritten;
             }
-            print_reply(records, reply, ordinal)
+            print_response(records, response, ordinal)
         },
         LineReply::NoQuestion => {
             refuse_line(path, number);

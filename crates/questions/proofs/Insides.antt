@@ -12,13 +12,14 @@ use Rattle.rules.specs.Names.{isWire}
 use Rattle.rules.specs.Records.{Record}
 use Rattle.rules.specs.Bytes.{dataOf, rdataOf, size, sizeOfAll}
 use Rattle.rules.specs.Questions.{Question, Placed, placedFrom, answers}
-use Rattle.rules.specs.Reading.{ontoRecords, decodeOne, decodeFrom, decode, replyOf, replyFrom, replyDecoded, momentEnd, isClient, askReply}
+use Rattle.rules.specs.Reading.{ontoRecords, decodeOne, decodeFrom, decode, replyOf, responseOf, responseFrom, responseDecoded, refusal, momentEnd, isClient, askResponse}
 use Rattle.rules.proofs.Tests.{pick-ok, tests}
 use Rattle.rules.proofs.Lists.{OnSome, All, nil, cons, all-at}
 use Rattle.rules.proofs.Meaning.{answers-all}
 use Rattle.judge.proofs.Shapes.{Shape, shape, size-is}
 use Rattle.rules.specs.declared.quantities.Ttl.{Ttl}
 use Rattle.rules.specs.declared.replies.Reply.{Reply}
+use Rattle.rules.specs.declared.replies.Response.{Response}
 use Rattle.questions.specs.Places.{Inside}
 use Rattle.questions.specs.Replies.{lineReply}
 use Rattle.questions.specs.declared.questions.LineReply.{LineReply}
@@ -76,26 +77,29 @@ module _ (stream : List ℕ) (q : Question) (ordinal : ℕ) where
   reply-inside none h = tt
   reply-inside (some p) h = omega (arith, h .0, h .1)
 
-  decoded-inside : (o : Option (List Record)) → OnSome (λ rs. sizeOfAll rs ≡ length stream) o → Inside stream (replyDecoded o q ordinal)
-  unfolding replyDecoded replyFrom
+  decoded-inside : (o : Option (List Record)) → OnSome (λ rs. sizeOfAll rs ≡ length stream) o → Inside stream (responseDecoded o q ordinal .reply)
+  unfolding responseDecoded responseFrom responseOf refusal
   decoded-inside none h = tt
   decoded-inside (some rs) h =
-      reply-inside (getElem? (answers q (placedFrom 0 rs)) ordinal)
+      reply-inside (getElem? (answers q (placedFrom 0 rs) .list) ordinal)
       (all-at ordinal (answers-all q (placed-ends 0 (length stream) rs (omega (arith, h)))))
 
-  pub inside : Inside stream (askReply stream q ordinal)
-  unfolding askReply decode
+  abbrev In : Response → Type 0
+  In r = Inside stream (r .reply)
+
+  pub inside : Inside stream (askResponse stream q ordinal .reply)
+  unfolding askResponse decode refusal
   inside =
-      pick-ok (Inside stream) (not (isWire (q .name))) (λ t. tt)
-      (λ t. pick-ok (Inside stream) (leb momentEnd (q .moment)) (λ t. tt)
-      (λ t. pick-ok (Inside stream) (not (isClient (q .client))) (λ t. tt)
+      pick-ok In (not (isWire (q .name))) (λ t. tt)
+      (λ t. pick-ok In (leb momentEnd (q .moment)) (λ t. tt)
+      (λ t. pick-ok In (not (isClient (q .client))) (λ t. tt)
       (λ t. decoded-inside (decodeFrom (length stream) stream) (sized (length stream) stream))))
 
-pub answered-inside : (records : List ℕ) (question : Option Question) (ordinal : ℕ) (r : LineReply) (a : Reply)
-    → r ≡ lineReply records question ordinal → r ≡ LineReply.Answered a → Inside records a
+pub answered-inside : (records : List ℕ) (question : Option Question) (ordinal : ℕ) (r : LineReply) (a : Response)
+    → r ≡ lineReply records question ordinal → r ≡ LineReply.Answered a → Inside records (a .reply)
 unfolding lineReply
 answered-inside records none ordinal r a e f = absurd (let z : _≡_ {A = ℕ} 0 1 = cc in omega arith)
-answered-inside records (some q) ordinal r a e f = let w : askReply records q ordinal ≡ a = cc in rw w at (inside records q ordinal)
+answered-inside records (some q) ordinal r a e f = let w : askResponse records q ordinal ≡ a = cc in rw w at (inside records q ordinal)
 
 pub found-inside : (records : List ℕ) (reply : Reply) (type : ℕ) (lifetime : Ttl) (place count : ℕ)
     → Inside records reply → reply ≡ Reply.Found type lifetime place count → place + count ≤ length records

@@ -13,8 +13,8 @@ use mir.Syntax.{w16}
 use Rattle.rules.specs.Lists.{pick, valueOr, isSome}
 use Rattle.rules.specs.Names.{NameRead, named, misnamed, nameOf, wireOf}
 use Rattle.rules.specs.Fields.{numberOf, largestShort, addressOf}
-use Rattle.rules.specs.Reading.{askReply}
-use Rattle.rules.specs.declared.replies.Reply.{Reply}
+use Rattle.rules.specs.Reading.{askResponse}
+use Rattle.rules.specs.declared.replies.Response.{Response}
 use Rattle.rules.specs.declared.faults.NameFault.{NameFault}
 use Rattle.rules.specs.declared.quantities.Moment.{Moment}
 use Rattle.numbers.specs.Views.{numberRead}
@@ -164,7 +164,7 @@ module _ (records s : List ℕ) (ordinal : ℕ) (x : QuestionRead) (p : IsQuesti
   unfolding lineReply questionRead pick
   no-question-in g = rw (← (p .says), not-true (x .good) g)
 
-  pub answered : (a : Reply) → a ≡ askReply records (heldQuestion x) ordinal → not (x .good) ≡ false → LineReply.Answered a ≡ lineReply records (questionOf s) ordinal
+  pub answered : (a : Response) → a ≡ askResponse records (heldQuestion x) ordinal → not (x .good) ≡ false → LineReply.Answered a ≡ lineReply records (questionOf s) ordinal
   unfolding lineReply questionRead pick
   answered a e g = rw (← (p .says), not-false (x .good) g, e)
 

@@ -2,7 +2,7 @@
 ghost use mathlib.Core.Path.{_≡_};
 ghost use mathlib.Core.Option.{none};
 ghost use Rattle.addresses.specs.HeldAddress.{IsHeld};
-ghost use Rattle.rules.specs.Reading.{askReply};
+ghost use Rattle.rules.specs.Reading.{askResponse};
 ghost use Rattle.questions.specs.Questions.{askerOf, askedOf, questionFrom, questionOf};
 ghost use Rattle.questions.specs.Views.{IsQuestion, IsWithin, heldQuestion};
 ghost use Rattle.questions.specs.Replies.{lineReply};
@@ -13,7 +13,7 @@ use addresses::addresses::AddressRead;
 use names::names::Name;
 use reader::ask;
 use rules::quantities::Moment;
-use rules::replies::Reply;
+use rules::replies::Response;
 
 pub struct QuestionRead {
     pub good: bool,
@@ -96,9 +96,9 @@ fn question(line: &[u8]) -> QuestionRead
 }
 
 // The record of this ordinal in the answer to a question that was read.
-fn ask_held(records: &[u8], question: QuestionRead, ordinal: u64) -> Reply
+fn ask_held(records: &[u8], question: QuestionRead, ordinal: u64) -> Response
     requires { ⌜ IsHeld (question .client) × IsWithin (question .name) ⌝ }
-    ensures { λ r. ⌜ r ≡ askReply (now (records .entry)) (heldQuestion question) ordinal ⌝ }
+    ensures { λ r. ⌜ r ≡ askResponse (now (records .entry)) (heldQuestion question) ordinal ⌝ }
 {
     let held = question.name;
     let name = held.bytes;
@@ -118,7 +118,7 @@ fn ask_held(records: &[u8], question: QuestionRead, ordinal: u64) -> Reply
 
 // What a line of text is answered: it may be no question.
 pub enum LineReply {
-    Answered(Reply),
+    Answered(Response),
     NoQuestion,
 }
 

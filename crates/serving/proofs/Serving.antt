@@ -9,18 +9,18 @@ use lib.ListN.{length, take}
 use Rattle.rules.specs.declared.faults.Answer.{Answer}
 use Rattle.rules.specs.declared.faults.Fault.{Fault}
 use Rattle.rules.specs.declared.faults.FieldKind.{FieldKind}
-use Rattle.rules.specs.declared.replies.Reply.{Reply}
+use Rattle.rules.specs.declared.replies.Response.{Response}
 use Rattle.rules.specs.Lists.{pick}
 use Rattle.rules.specs.Answers.{faultNumber, isDone, answer}
 use Rattle.rules.specs.Questions.{Question}
-use Rattle.rules.specs.Reading.{askReply}
+use Rattle.rules.specs.Reading.{askResponse}
 use Rattle.rules.specs.Demands.{Accepted, bytesNeeded, CompilingRefusesExactly, compiledBytes}
 use Rattle.rules.proofs.Refusals.{refuses-exactly}
 use Rattle.refusals.proofs.Numbers.{zero-done, other-refused}
 use Rattle.wire.proofs.Parts.{front-count}
 use Rattle.compiler.specs.Compiled.{IsCompiled}
-use Rattle.vahmizar.specs.declared.outcomes.Outcome.{Outcome}
-use Rattle.vahmizar.specs.Promises.{outcomeNumbers, Serves}
+use Rattle.vahmizar.specs.declared.served.Served.{Served}
+use Rattle.vahmizar.specs.Promises.{servedNumbers, Serves}
 use Rattle.vahmizar.proofs.Kept.{is-done, tells-in}
 
 -- only the number 0 is done
@@ -51,12 +51,12 @@ module _ (source : List ℕ) (serial : ℕ) (out out′ : List ℕ) (a : Answer)
   unfolding CompilingRefusesExactly
   done-accepted d = refuses-exactly source serial (length out) .onlyDone (ap (λ (x : Answer). x .fault) (sym (c .answer)) ∙ done-is (a .fault) (zero-done (a .fault) n f d))
 
-  pub not-compiled : (q : Question) (ordinal : ℕ) → (n ≡ 0 → ⊥) → Serves source serial out q ordinal out′ (Outcome.NotCompiled a)
-  unfolding pick outcomeNumbers
+  pub not-compiled : (q : Question) (ordinal : ℕ) → (n ≡ 0 → ⊥) → Serves source serial out q ordinal out′ (Served.NotCompiled a)
+  unfolding pick servedNumbers
   not-compiled q ordinal t =
       let d : isDone (a .fault) ≡ false = other-refused (a .fault) n f t in
       record {
-        outcome = rw (← c .answer, d);
+        served = rw (← c .answer, d);
         numbers = rw (← c .answer, d);
         output = c .output;
         meaning = λ ok room askable. absurd (true≢false (sym (accepted-done ok room) ∙ d));
@@ -76,16 +76,16 @@ module _ (source : List ℕ) (serial : ℕ) (out out′ : List ℕ) (a : Answer)
     pub written-count : length out′ ≡ length out → a .bytes ≡ length (take (a .bytes) out′)
     written-count e = front-count out′ (a .bytes) (length out′) refl (written-fits e)
 
-    pub served : (q : Question) (ordinal : ℕ) (reply : Reply) → reply ≡ askReply (take (a .bytes) out′) q ordinal
-        → Serves source serial out q ordinal out′ (Outcome.Asked reply)
-    unfolding pick compiledBytes outcomeNumbers
-    served q ordinal reply e =
+    pub served : (q : Question) (ordinal : ℕ) (said : Response) → said ≡ askResponse (take (a .bytes) out′) q ordinal
+        → Serves source serial out q ordinal out′ (Served.Asked said)
+    unfolding pick compiledBytes servedNumbers
+    served q ordinal said e =
         let d : isDone (a .fault) ≡ true = zero-done (a .fault) n f t in
         record {
-          outcome = rw (← c .answer, d, ← c .output, ← e);
+          served = rw (← c .answer, d, ← c .output, ← e);
           numbers = rw (← c .answer, d, ← c .output, ← e);
           output = c .output;
-          meaning = λ ok room askable. (reply, (refl, rw (e, count-is) (tells-in source serial out ok room out′ (c .output) q ordinal askable)));
+          meaning = λ ok room askable. (said, (refl, rw (e, count-is) (tells-in source serial out ok room out′ (c .output) q ordinal askable)));
         }
 
 pub ruleset serve·laws = (needs, written-fits, written-count)

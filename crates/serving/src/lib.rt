@@ -4,7 +4,7 @@ use compiler::compile::compile;
 use reader::ask;
 use refusals::faults::number;
 use rules::quantities::Moment;
-use vahmizar::outcomes::Outcome;
+use vahmizar::served::Served;
 
 pub fn compile_and_ask(
     source: &[u8],
@@ -15,14 +15,14 @@ pub fn compile_and_ask(
     client: &[u8],
     moment: Moment,
     ordinal: u64,
-) -> Outcome
+) -> Served
     ensures { λ r. ⌜ Serves (now (source .entry)) serial (now (out .entry)) (record { name = now (name .entry); type = qtype; client = now (client .entry); moment = moment .0 }) ordinal (now (out .exit)) r ⌝ }
 {
     let said = compile(source, serial, out);
     let fault = said.fault;
     if number(fault) != 0 {
-        return Outcome::NotCompiled(said);
+        return Served::NotCompiled(said);
     }
     let written = said.bytes;
-    Outcome::Asked(ask(&out[..written], name, qtype, client, moment, ordinal))
+    Served::Asked(ask(&out[..written], name, qtype, client, moment, ordinal))
 }

@@ -29,7 +29,6 @@ use denote.Ref.{RefT, now}
 use denote.Signature.{plain, namedLft}
 use denote.Slice.{sliceVal, ShrSlice, slice-vals, shr-slice-tells, shr-slice-lawful, shr-slice-copy}
 use denote.Steps.{owned, peeks, heard, nothing}
-use denote.Enum.Laws as EL
 use denote.Struct.Declared.{Declared}
 use denote.Struct.Laws as LL
 use denote.Struct.Rest.{all-own, ownAt, rest, own-open, own-out}
@@ -43,13 +42,13 @@ use denote.Triple.Walked.{says, Stays, stay-none, stay-none-slice, walkOf, goes-
 use denote.Exit.{yes}
 use denote.Triple.Clauses.{ensured, lasts}
 use Rattle.rules.specs.Questions.{Question}
-use Rattle.rules.specs.Reading.{askReply}
+use Rattle.rules.specs.Reading.{askResponse}
 use Rattle.rules.specs.declared.quantities.Moment.{Moment}
-use Rattle.rules.specs.declared.replies.Reply.{Reply}
+use Rattle.rules.specs.declared.replies.Response.{Response}
 use Rattle.rules.proofs.quantities.Moment as Mo
 use Rattle.rules.proofs.quantities.Moment.Laws as Mo′
-use Rattle.rules.proofs.replies.Reply as S
-use Rattle.rules.proofs.replies.Reply.Laws as S′
+use Rattle.rules.proofs.replies.Response as S
+use Rattle.rules.proofs.replies.Response.Laws as S′
 use Rattle.reader.proofs.ask as inner
 use Rattle.reader.proofs.ask.Symbol as inner-def
 use Rattle.reader.proofs.ask.Symbol.{name as #reader·ask}
@@ -101,8 +100,8 @@ module _ {M : Type 1} (𝓤 : URA M) (H : Heap 𝓤) (A : Atoms 𝓤) (W : Given
   abbrev question : Question
   question = record { name = now name; type = type; client = now client; moment = moment .0 }
 
-  abbrev found : Reply
-  found = askReply (now (d .bytes)) question n
+  abbrev found : Response
+  found = askResponse (now (d .bytes)) question n
 
   abbrev Post : Val → SProp 𝓤
   Post = walkOf 𝓤 H A ask.ended stayed (ask.clauses 𝓤 H A mem run) .post ((κs, (q, (q′, (q″, tt))), tt, (d, (name, (type, (client, (moment, (n, tt)))))), at), tt)
@@ -160,10 +159,10 @@ module _ {M : Type 1} (𝓤 : URA M) (H : Heap 𝓤) (A : Atoms 𝓤) (W : Given
       move ! (5 ∷ 0 ∷ []) $ use2 W (raw (Inner 𝓤 H A mem run .pre to)) asked $ frame ! $ done !)
 
   -- of the callee's `ensured`, the clause alone: it has no `&mut`, so what is said of last values is dropped
-  said : (r : Reply) → ent 𝓤 (ensured 𝓤 H A inner.ended (inner.clauses 𝓤 H A mem run) κs (d .bytes, (name, (type, (client, (moment, (n, tt)))))) tt r) (fact 𝓤 (r ≡ found))
+  said : (r : Response) → ent 𝓤 (ensured 𝓤 H A inner.ended (inner.clauses 𝓤 H A mem run) κs (d .bytes, (name, (type, (client, (moment, (n, tt)))))) tt r) (fact 𝓤 (r ≡ found))
   said r = exE 𝓤 _ (λ ws. snd∗ 𝓤 (sem 𝓤 H A (lasts inner.ended κs (d .bytes, (name, (type, (client, (moment, (n, tt)))))) ws)) (fact 𝓤 (r ≡ found)))
 
-  exits : (r : Reply) (u : Val) → type < 2 ^ 16 → n < 2 ^ 64 → r ≡ found
+  exits : (r : Response) (u : Val) → type < 2 ^ 16 → n < 2 ^ 64 → r ≡ found
       → ent 𝓤 (⋆ 𝓤 H A (‵ (S.the-row .own r (u ∷ [])) ∷ (‵ (flft κ q) ⊛ ‵ (flft κ′ q′) ⊛ ‵ (flft κ″ q″) ⊛ ‵ ftrue) ∷ ‵ Own ∷ ‵ OwnName ∷ ‵ OwnClient ∷ ‵ OwnMoment ∷ [])) (Post u)
   exits r u short fits e =
       qed W (‵ (S.the-row .own r (u ∷ [])) ∷ (‵ (flft κ q) ⊛ ‵ (flft κ′ q′) ⊛ ‵ (flft κ″ q″) ⊛ ‵ ftrue) ∷ ‵ Own ∷ ‵ OwnName ∷ ‵ OwnClient ∷ ‵ OwnMoment ∷ []) ∵
@@ -185,11 +184,11 @@ module _ {M : Type 1} (𝓤 : URA M) (H : Heap 𝓤) (A : Atoms 𝓤) (W : Given
         -- [what is asked; what the struct owns; name; client; moment; _7; …; _6; …; _5; …; _4; …; _3; …; _2; …; _1; …; room for _0; …]
         calls-at ! fm (Inner 𝓤 H A mem run) known to
         (and-then ! (load ! (from ! (stop !)) (look ! 5 refl)) (and-then ! (load ! (from ! (stop !)) (look ! 15 refl)) (and-then ! (load ! (from ! (stop !)) (look ! 13 refl)) (and-then ! (load ! (from ! (stop !)) (look ! 11 refl)) (and-then ! (load ! (from ! (stop !)) (look ! 9 refl)) (and-then ! (load ! (from ! (stop !)) (look ! 7 refl)) (no-more !))))))) (λ u.
-        use1 W (later (some (λ (r : Reply). ((‵ (flft κ q) ⊛ ‵ (flft κ′ q′) ⊛ ‵ (flft κ″ q″) ⊛ ‵ ftrue) ⊛ ‵ (S.the-row .own r (u ∷ []))) ⊛ raw (ensured 𝓤 H A inner.ended (inner.clauses 𝓤 H A mem run) κs (d .bytes, (name, (type, (client, (moment, (n, tt)))))) tt r)))) (id⊢ 𝓤 _) $ await ! tt $ pick ! (λ r.
+        use1 W (later (some (λ (r : Response). ((‵ (flft κ q) ⊛ ‵ (flft κ′ q′) ⊛ ‵ (flft κ″ q″) ⊛ ‵ ftrue) ⊛ ‵ (S.the-row .own r (u ∷ []))) ⊛ raw (ensured 𝓤 H A inner.ended (inner.clauses 𝓤 H A mem run) κs (d .bytes, (name, (type, (client, (moment, (n, tt)))))) tt r)))) (id⊢ 𝓤 _) $ await ! tt $ pick ! (λ r.
         split ! $ move ! (1 ∷ []) $ use1 W (raw (fact 𝓤 (r ≡ found))) (said r) $ heard ! (r ≡ found) (λ e. split ! $ move ! (1 ∷ []) $
         -- [the result; the tokens; what the struct owns; name; client; moment; _7; …; _6; …; _5; …; _4; …; _3; …; _2; …; _1; …; room for _0; …]
         peeks ! S.the-row (Is S.the-row) (shows 𝓤 H A S.the-row) r (u ∷ []) (λ is.
-        land ! (from ! (stop !)) (init ! 20 refl (EL.lawful S.the-type S′.the-laws 𝓤 H A W tt .typed r _ is .0)) $
+        land ! (from ! (stop !)) (init ! 20 refl (LL.lawful S.the-type S′.the-laws 𝓤 H A W .typed r _ is .0)) $
         returns ! (look ! 20 refl) $ forget ! 6 refl $ forget ! 8 refl $ forget ! 10 refl $ forget ! 12 refl $ forget ! 14 refl $ forget ! 16 refl $ forget ! 18 refl $ forget ! 20 refl $
         move ! (20 ∷ 21 ∷ []) $ free1 ! $ move ! (18 ∷ 19 ∷ []) $ free1 ! $ move ! (16 ∷ 17 ∷ []) $ free1 ! $ move ! (14 ∷ 15 ∷ []) $ free1 ! $ move ! (12 ∷ 13 ∷ []) $ free1 ! $ move ! (10 ∷ 11 ∷ []) $ free1 ! $ move ! (8 ∷ 9 ∷ []) $ free1 ! $ move ! (6 ∷ 7 ∷ []) $ free1 ! $ free0 ! $
         by ! (exits r u gt gn e)))))))))))))

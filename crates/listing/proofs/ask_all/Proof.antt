@@ -29,8 +29,8 @@ slice-aggregate-compile-and-ask-2 c = search needs
 compile-and-ask-requires : tie.Need-compile-and-ask-requires Inv-loop μ-loop
 compile-and-ask-requires c κs = search needs
 
-print-outcome-requires : tie.Need-print-outcome-requires Inv-loop μ-loop
-print-outcome-requires c κs = search needs
+print-served-requires : tie.Need-print-served-requires Inv-loop μ-loop
+print-served-requires c κs = search needs
 
 slice-aggregate-write-all : tie.Need-slice-aggregate-write-all Inv-loop μ-loop
 slice-aggregate-write-all c = search needs
@@ -65,7 +65,7 @@ ask-all-spec =
     slice-aggregate-compile-and-ask
     slice-aggregate-compile-and-ask-2
     compile-and-ask-requires
-    print-outcome-requires
+    print-served-requires
     slice-aggregate-write-all
     write-all-requires
     add-ordinal

@@ -6,8 +6,8 @@ use Rattle.lookup.proofs.print.print_answer.Tie as tie
 answer-line-requires : tie.Need-answer-line-requires
 answer-line-requires c κs = search needs
 
-enum-known-reply : tie.Need-enum-known-reply
-enum-known-reply c = search (answered-inside, needs)
+enum-known-response : tie.Need-enum-known-response
+enum-known-response c = search (answered-inside, needs)
 
 print-question-requires : tie.Need-print-question-requires
 print-question-requires c κs = search needs
@@ -15,8 +15,8 @@ print-question-requires c κs = search needs
 returns : tie.Need-returns
 returns c = search needs
 
-print-reply-requires : tie.Need-print-reply-requires
-print-reply-requires c κs = search (answered-inside, needs)
+print-response-requires : tie.Need-print-response-requires
+print-response-requires c κs = search (answered-inside, needs)
 
 enum-told : tie.Need-enum-told
 enum-told c = search (answered-inside, needs)
@@ -35,10 +35,10 @@ print-answer-spec =
     tie.close
     (tie.spec
     answer-line-requires
-    enum-known-reply
+    enum-known-response
     print-question-requires
     returns
-    print-reply-requires
+    print-response-requires
     enum-told
     refuse-line-requires
     returns-2

@@ -15,12 +15,6 @@ returns c = search needs
 enum-told : tie.Need-enum-told
 enum-told c = search (found-inside, needs)
 
-print-none-requires : tie.Need-print-none-requires
-print-none-requires c κs = search needs
-
-last-requires : tie.Need-last-requires
-last-requires c κs = search needs
-
 enum-told-2 : tie.Need-enum-told-2
 enum-told-2 c = search (found-inside, needs)
 
@@ -30,8 +24,8 @@ reply-number-requires c κs = search needs
 print-refusal-requires : tie.Need-print-refusal-requires
 print-refusal-requires c κs = search needs
 
-last-requires-2 : tie.Need-last-requires-2
-last-requires-2 c κs = search needs
+last-requires : tie.Need-last-requires
+last-requires c κs = search needs
 
 returns-2 : tie.Need-returns-2
 returns-2 c = search needs
@@ -50,12 +44,10 @@ print-reply-spec =
     print-record-requires
     returns
     enum-told
-    print-none-requires
-    last-requires
     enum-told-2
     reply-number-requires
     print-refusal-requires
-    last-requires-2
+    last-requires
     returns-2
     returns-3
     returns-4)
