@@ -24,7 +24,7 @@ use Rattle.ranks.specs.declared.Role.{Role}
 use Rattle.ranks.proofs.Related.{not-end}
 use Rattle.picks.proofs.Picking.{ends}
 use Rattle.locate.specs.Covers.{Covers}
-use Rattle.locate.specs.Reaches.{Passed}
+use Rattle.locate.specs.Reaches.{Passed, Plain}
 use Rattle.locate.specs.Steps.{mayAnswer, mayControl}
 use Rattle.locate.proofs.Unranked.{largest-append, one-more, picked-between}
 
@@ -88,6 +88,23 @@ module _ (role : Role) (name stream : List ℕ) where
     back-size = refl;
     front-rank = λ here moment. refl;
     back-rank = λ here moment. refl;
+  }
+
+  -- records of no rank in any role: what stands behind the part grows by all of them
+  pub plain-behind : (from until at : ℕ) → Passed role name stream from until at → (to : ℕ) → Plain name stream at to → Passed role name stream from until to
+  plain-behind from until at p to q = record {
+    before = p .before;
+    between = p .between;
+    behind = p .behind ++ q .records;
+    ordered = p .ordered;
+    reached = omega (arith, p .reached, q .ordered);
+    front = p .front;
+    middle = p .middle;
+    back = parts-join stream until at to _ _ (p .reached) (q .ordered) (q .inside) (p .back) (q .read);
+    front-size = p .front-size;
+    back-size = omega (arith, sizes-add (p .behind) (q .records), p .back-size, q .size-is);
+    front-rank = p .front-rank;
+    back-rank = λ here moment. omega (arith, largest-append (seenRank role name here moment) (p .behind) (q .records), p .back-rank here moment, q .unranked role here moment);
   }
 
   module _ (from until at : ℕ) (p : Passed role name stream from until at) (span : Span) (i : IsSpan stream at span) where

@@ -2,4 +2,5 @@ pub mod Prefixes
 pub mod Unranked
 pub mod Covering
 pub mod Steps
+pub mod Stopping
 pub mod Locating

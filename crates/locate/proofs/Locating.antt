@@ -3,7 +3,7 @@ use mathlib.Core.Path.{_≡_, refl, ap, _∙_, sym}
 use mathlib.Core.Bool.{Bool, true, false}
 use mathlib.Core.List.{List}
 use mathlib.Core.Option.{Option, none, some}
-use Prim.Native.Nat.{ℕ, _-_, _≤_}
+use Prim.Native.Nat.{ℕ, _-_, _<_, _≤_}
 use native.Mathlib.Omega.{arith}
 use borrow.Author.Needs.{needs}
 use borrow.Author.Tests.{eq-eqb, ne-eqb, eqb-true, eqb-false}
@@ -11,108 +11,26 @@ use lib.ListN.{length, take, drop, drop-of-length-le}
 use lib.Dec.{eqb}
 use Rattle.rules.specs.declared.quantities.Lo.{Lo}
 use Rattle.rules.specs.Lists.{pick}
-use Rattle.rules.specs.Records.{Record, location, resource, loBytes}
-use Rattle.rules.specs.Bytes.{wild}
+use Rattle.rules.specs.Records.{Record, location, loBytes}
 use Rattle.rules.specs.Questions.{Best, better, bestOf, locationOf}
 use Rattle.rules.specs.Reading.{recordIn, ontoRecords, decode}
 use Rattle.stream.specs.declared.Span.{Span}
 use Rattle.stream.specs.Spans.{part, IsSpan}
 use Rattle.stream.proofs.Heads.{decode-nil}
-use Rattle.ranks.specs.Ranks.{endsIn}
 use Rattle.ranks.specs.declared.Role.{Role}
 use Rattle.locate.specs.declared.Located.{Located}
 use Rattle.locate.specs.declared.Part.{Part}
 use Rattle.locate.specs.declared.Step.{Step}
+use Rattle.locate.specs.declared.Stop.{Stop}
 use Rattle.locate.specs.declared.Judged.{Judged}
 use Rattle.locate.specs.Covers.{Covers, Covered}
 use Rattle.locate.specs.Grown.{grownTo}
 use Rattle.locate.specs.Locations.{locatedIn, locatedFrom, bestSeen, judgedLo}
-use Rattle.locate.specs.Reaches.{Passed}
-use Rattle.locate.specs.Steps.{malformed, located, seen, mayAnswer, mayControl, relatedStep, stepSeen, stepOf}
-use Rattle.locate.proofs.Covering.{Read, NoRank, located-rank, unended, no-answer, no-control, at-start, passed, found-first, found-more, covers}
-
--- ---- one record
-
-not-located : (t a b : Bool) (best : Best) → pick t (seen a b) (seen false false) ≡ located best → ⊥
-unfolding pick
-not-located true a b best e = let z : _≡_ {A = ℕ} 0 1 = cc in omega arith
-not-located false a b best e = let z : _≡_ {A = ℕ} 0 1 = cc in omega arith
-
-not-malformed : (t a b : Bool) → pick t (seen a b) (seen false false) ≡ malformed → ⊥
-unfolding pick
-not-malformed true a b e = let z : _≡_ {A = ℕ} 0 1 = cc in omega arith
-not-malformed false a b e = let z : _≡_ {A = ℕ} 0 1 = cc in omega arith
-
-module _ (client name : List ℕ) (best : Best) (key : List ℕ) where
-  step-none : (o : Option Record) → stepOf client name best key o ≡ malformed → o ≡ none
-  unfolding stepOf relatedStep
-  step-none none e = refl
-  step-none (some (location prefix lo)) e = let z : _≡_ {A = ℕ} 0 1 = cc in absurd (omega arith)
-  step-none (some (resource owner type lo ttl time rdata)) e = absurd (not-malformed (endsIn name key) _ _ e)
-
-  step-better : (next : Best) (o : Option Record) (ds : Option (List Record)) → stepOf client name best key o ≡ located next
-      → locatedFrom client best (ontoRecords o ds) ≡ locatedFrom client next ds
-  unfolding stepOf relatedStep locatedFrom ontoRecords bestOf
-  step-better next none ds e = let z : _≡_ {A = ℕ} 0 1 = cc in absurd (omega arith)
-  step-better next (some (location prefix lo)) none e = refl
-  step-better next (some (location prefix lo)) (some rs) e =
-      let q : better client best (location prefix lo) ≡ next = cc in
-      ap (λ (b : Best). some (bestOf client b rs .lo)) q
-  step-better next (some (resource owner type lo ttl time rdata)) ds e = absurd (not-located (endsIn name key) _ _ next e)
-
-  -- a record with an owner leaves the location as it is
-  step-same : (a b : Bool) (o : Option Record) (ds : Option (List Record)) → stepOf client name best key o ≡ seen a b → locatedFrom client best (ontoRecords o ds) ≡ locatedFrom client best ds
-  unfolding stepOf locatedFrom ontoRecords bestOf better
-  step-same a b none ds e = let z : _≡_ {A = ℕ} 0 1 = cc in absurd (omega arith)
-  step-same a b (some (location prefix lo)) ds e = let z : _≡_ {A = ℕ} 0 1 = cc in absurd (omega arith)
-  step-same a b (some (resource owner type lo ttl time rdata)) none e = refl
-  step-same a b (some (resource owner type lo ttl time rdata)) (some rs) e = refl
-
--- what was met: a record, and in which roles it has no rank
-record Met (name key rdata : List ℕ) (a b : Bool) : Type 0 where
-  read : Read name key rdata
-  level : a ≡ false → NoRank name key rdata Role.Level
-  control : b ≡ false → NoRank name key rdata Role.Control
-  zone : b ≡ false → NoRank name key rdata Role.Zone
-
-module _ (client name : List ℕ) (best : Best) (key rdata : List ℕ) where
-  met-location : (next : Best) → stepOf client name best key (recordIn key rdata) ≡ located next → Met name key rdata false false
-  met-location next e = go (recordIn key rdata) refl e
-    where
-      go : (o : Option Record) → recordIn key rdata ≡ o → stepOf client name best key o ≡ located next → Met name key rdata false false
-      go none q e = unfold stepOf in (let z : _≡_ {A = ℕ} 0 1 = cc in absurd (omega arith))
-      go (some (location prefix lo)) q e = record {
-        read = record { rec = location prefix lo; is = q };
-        level = λ z. located-rank name key rdata Role.Level prefix lo q;
-        control = λ z. located-rank name key rdata Role.Control prefix lo q;
-        zone = λ z. located-rank name key rdata Role.Zone prefix lo q;
-      }
-      go (some (resource owner type lo ttl time rd)) q e = absurd (unfold stepOf relatedStep in not-located (endsIn name key) _ _ next e)
-
-  met : (a b : Bool) → stepOf client name best key (recordIn key rdata) ≡ seen a b → Met name key rdata a b
-  met a b e = go (recordIn key rdata) refl e
-    where
-      go : (o : Option Record) → recordIn key rdata ≡ o → stepOf client name best key o ≡ seen a b → Met name key rdata a b
-      go none q e = unfold stepOf in (let z : _≡_ {A = ℕ} 0 1 = cc in absurd (omega arith))
-      go (some (location prefix lo)) q e = unfold stepOf in (let z : _≡_ {A = ℕ} 0 1 = cc in absurd (omega arith))
-      go (some (resource owner type lo ttl time rd)) q e = by (endsIn name key) refl (unfold stepOf relatedStep in e)
-        where
-          by : (t : Bool) → endsIn name key ≡ t → pick t (seen (mayAnswer name key (wild owner)) (mayControl (wild owner) type)) (seen false false) ≡ seen a b → Met name key rdata a b
-          by true u p = unfold pick in
-              let x : mayAnswer name key (wild owner) ≡ a = cc in
-              let y : mayControl (wild owner) type ≡ b = cc in
-              record {
-                read = record { rec = resource owner type lo ttl time rd; is = q };
-                level = λ z. no-answer name key rdata owner lo rd type ttl time q (x ∙ z);
-                control = λ z. no-control name key rdata owner lo rd type ttl time q (y ∙ z) .0;
-                zone = λ z. no-control name key rdata owner lo rd type ttl time q (y ∙ z) .1;
-              }
-          by false u p = record {
-            read = record { rec = resource owner type lo ttl time rd; is = q };
-            level = λ z. unended name key rdata owner lo rd type ttl time q Role.Level u;
-            control = λ z. unended name key rdata owner lo rd type ttl time q Role.Control u;
-            zone = λ z. unended name key rdata owner lo rd type ttl time q Role.Zone u;
-          }
+use Rattle.locate.specs.Reaches.{Passed, Plain}
+use Rattle.locate.specs.Steps.{seen, stepSeen, stepOf}
+use Rattle.locate.specs.Stops.{IsStop, Stopped}
+use Rattle.locate.proofs.Covering.{Read, NoRank, at-start, passed, plain-behind, found-first, found-more, covers}
+use Rattle.locate.proofs.Stopping.{step-none, step-same, is-location, met-location, met}
 
 -- ---- the pass
 
@@ -140,6 +58,28 @@ at-first client name stream = record {
   zone-passed = at-start Role.Zone name stream;
 }
 
+-- a location
+step-better : (client : List ℕ) (best : Best) (prefix lo : List ℕ) (ds : Option (List Record))
+    → locatedFrom client best (ontoRecords (some (location prefix lo)) ds) ≡ locatedFrom client (better client best (location prefix lo)) ds
+unfolding locatedFrom ontoRecords bestOf
+step-better client best prefix lo none = refl
+step-better client best prefix lo (some rs) = refl
+
+-- over records that are nothing to the pass
+module _ (client name stream : List ℕ) (best : Located) (level control : Part) (at : ℕ) (g : Going client name stream best level control at) (to : ℕ) (q : Plain name stream at to) where
+  plain-passed : (role : Role) (p : Part) → Passed role name stream (p .from) (p .until) at → Passed role name stream (p .from) (p .until) to
+  plain-passed role p h = plain-behind role name stream (p .from) (p .until) at h to q
+
+  moves : Going client name stream best level control to
+  moves = record {
+    inside = q .inside;
+    located-there = g .located-there ∙ q .unlocated client (bestSeen best);
+    level-passed = plain-passed Role.Level level (g .level-passed);
+    control-passed = plain-passed Role.Control control (g .control-passed);
+    zone-passed = plain-passed Role.Zone control (g .zone-passed);
+  }
+
+-- at a record
 module _ (client name stream : List ℕ) (best : Located) (level control : Part) (at : ℕ) (g : Going client name stream best level control at) (span : Span) (i : IsSpan stream at span) where
   abbrev key : List ℕ
   key = take (span .middle - span .start) (drop (span .start) stream)
@@ -159,34 +99,40 @@ module _ (client name stream : List ℕ) (best : Located) (level control : Part)
   stays : (role : Role) (p : Part) → Passed role name stream (p .from) (p .until) at → Read name key rdata → NoRank name key rdata role → Passed role name stream (p .from) (p .until) (span .next)
   stays role p h o z = passed role name stream (p .from) (p .until) at h span i o z
 
-  module _ (r : Step) (q : stepSeen r ≡ stepOf client name (bestSeen best) key (recordIn key rdata)) where
-    is-step : (x : Step) → r ≡ x → stepOf client name (bestSeen best) key (recordIn key rdata) ≡ stepSeen x
+  module _ (r : Step) (q : stepSeen r ≡ stepOf name key (recordIn key rdata)) where
+    is-step : (x : Step) → r ≡ x → stepOf name key (recordIn key rdata) ≡ stepSeen x
     is-step x p = sym q ∙ ap stepSeen p
 
-    same : (a b : Bool) → stepOf client name (bestSeen best) key (recordIn key rdata) ≡ seen a b → locatedIn client (decode stream) ≡ locatedFrom client (bestSeen best) (decode (drop (span .next) stream))
+    same : (a b : Bool) → stepOf name key (recordIn key rdata) ≡ seen a b → locatedIn client (decode stream) ≡ locatedFrom client (bestSeen best) (decode (drop (span .next) stream))
     unfolding part
-    same a b e = (rw (i .says) at (g .located-there)) ∙ step-same client name (bestSeen best) key a b _ (decode (drop (span .next) stream)) e
+    same a b e = (rw (i .says) at (g .located-there)) ∙ step-same name key client (bestSeen best) a b _ (decode (drop (span .next) stream)) e
 
-    pub breaks : r ≡ Step.Broken → judgedLo Judged.Broken ≡ locatedIn client (decode stream)
+    broken-at : r ≡ Step.Broken → judgedLo Judged.Broken ≡ locatedIn client (decode stream)
     unfolding part ontoRecords stepSeen judgedLo locatedFrom
-    breaks b = sym (g .located-there ∙ rw (i .says, step-none client name (bestSeen best) key _ (is-step Step.Broken b)))
+    broken-at b = sym (g .located-there ∙ rw (i .says, step-none name key _ (is-step Step.Broken b)))
 
-    pub better-goes : (next : Located) → r ≡ Step.Better next → Going client name stream next level control (span .next)
-    unfolding part stepSeen
-    better-goes next b =
-        let m = met-location client name (bestSeen best) key rdata (bestSeen next) (is-step (Step.Better next) b) in
+    located-at : (lo : Lo) → r ≡ Step.Location lo → (recordIn key rdata ≡ some (location (drop 2 key) (loBytes lo))) × (2 ≤ length key)
+    unfolding stepSeen
+    located-at lo b = is-location name key rdata (loBytes lo) (is-step (Step.Location lo) b)
+
+    location-at : (lo : Lo) → r ≡ Step.Location lo → (next : Located) → bestSeen next ≡ better client (bestSeen best) (location (drop 2 key) (loBytes lo))
+        → Going client name stream next level control (span .next)
+    unfolding part
+    location-at lo b next e =
+        let l = located-at lo b .0 in
+        let m = met-location name key rdata (drop 2 key) (loBytes lo) l in
         record {
           inside = i .inside;
-          located-there = (rw (i .says) at (g .located-there)) ∙ step-better client name (bestSeen best) key (bestSeen next) _ (decode (drop (span .next) stream)) (is-step (Step.Better next) b);
+          located-there = (rw (i .says, l) at (g .located-there)) ∙ (rw (← e) at (step-better client (bestSeen best) (drop 2 key) (loBytes lo) (decode (drop (span .next) stream))));
           level-passed = stays Role.Level level (g .level-passed) (m .read) (m .level refl);
           control-passed = stays Role.Control control (g .control-passed) (m .read) (m .control refl);
           zone-passed = stays Role.Zone control (g .zone-passed) (m .read) (m .zone refl);
         }
 
-    pub both-goes : (l c : Part) → r ≡ Step.Both → l ≡ grownTo level at (span .next) → c ≡ grownTo control at (span .next) → Going client name stream best l c (span .next)
+    both-at : (l c : Part) → r ≡ Step.Both → l ≡ grownTo level at (span .next) → c ≡ grownTo control at (span .next) → Going client name stream best l c (span .next)
     unfolding stepSeen
-    both-goes l c b x y =
-        let m = met client name (bestSeen best) key rdata true true (is-step Step.Both b) in
+    both-at l c b x y =
+        let m = met name key rdata true true (is-step Step.Both b) in
         record {
           inside = i .inside;
           located-there = same true true (is-step Step.Both b);
@@ -195,10 +141,10 @@ module _ (client name stream : List ℕ) (best : Located) (level control : Part)
           zone-passed = grows Role.Zone control c (g .zone-passed) (m .read) y;
         }
 
-    pub candidate-goes : (l : Part) → r ≡ Step.Candidate → l ≡ grownTo level at (span .next) → Going client name stream best l control (span .next)
+    candidate-at : (l : Part) → r ≡ Step.Candidate → l ≡ grownTo level at (span .next) → Going client name stream best l control (span .next)
     unfolding stepSeen
-    candidate-goes l b x =
-        let m = met client name (bestSeen best) key rdata true false (is-step Step.Candidate b) in
+    candidate-at l b x =
+        let m = met name key rdata true false (is-step Step.Candidate b) in
         record {
           inside = i .inside;
           located-there = same true false (is-step Step.Candidate b);
@@ -207,10 +153,10 @@ module _ (client name stream : List ℕ) (best : Located) (level control : Part)
           zone-passed = stays Role.Zone control (g .zone-passed) (m .read) (m .zone refl);
         }
 
-    pub control-goes : (c : Part) → r ≡ Step.Control → c ≡ grownTo control at (span .next) → Going client name stream best level c (span .next)
+    control-at : (c : Part) → r ≡ Step.Control → c ≡ grownTo control at (span .next) → Going client name stream best level c (span .next)
     unfolding stepSeen
-    control-goes c b y =
-        let m = met client name (bestSeen best) key rdata false true (is-step Step.Control b) in
+    control-at c b y =
+        let m = met name key rdata false true (is-step Step.Control b) in
         record {
           inside = i .inside;
           located-there = same false true (is-step Step.Control b);
@@ -219,10 +165,10 @@ module _ (client name stream : List ℕ) (best : Located) (level control : Part)
           zone-passed = grows Role.Zone control c (g .zone-passed) (m .read) y;
         }
 
-    pub other-goes : r ≡ Step.Other → Going client name stream best level control (span .next)
+    other-at : r ≡ Step.Other → Going client name stream best level control (span .next)
     unfolding stepSeen
-    other-goes b =
-        let m = met client name (bestSeen best) key rdata false false (is-step Step.Other b) in
+    other-at b =
+        let m = met name key rdata false false (is-step Step.Other b) in
         record {
           inside = i .inside;
           located-there = same false false (is-step Step.Other b);
@@ -230,6 +176,52 @@ module _ (client name stream : List ℕ) (best : Located) (level control : Part)
           control-passed = stays Role.Control control (g .control-passed) (m .read) (m .control refl);
           zone-passed = stays Role.Zone control (g .zone-passed) (m .read) (m .zone refl);
         }
+
+-- where the pass over plain records stopped
+module _ (client name stream : List ℕ) (best : Located) (level control : Part) (at : ℕ) (g : Going client name stream best level control at) (x : Stop) (is : IsStop name stream at x) where
+  pub ended-goes : x ≡ Stop.Ended → Going client name stream best level control (length stream)
+  ended-goes q = moves client name stream best level control at g (length stream) (rw q at is)
+
+  module _ (s : Step) (f a m n : ℕ) (q : x ≡ Stop.At s f a m n) where
+    abbrev span : Span
+    span = record { start = a; middle = m; next = n }
+
+    stopped : Stopped name stream at s f a m n
+    stopped = rw q at is
+
+    reached : Going client name stream best level control f
+    reached = moves client name stream best level control at g f (stopped .plain)
+
+    pub key-ordered : a ≤ m
+    key-ordered = stopped .span .key-first
+
+    pub key-inside : m ≤ length stream
+    key-inside = omega (arith, stopped .span .data-behind, stopped .span .inside)
+
+    pub stop-less : at < length stream → length stream - n < length stream - at
+    stop-less h = omega (arith, stopped .plain .ordered, stopped .span .goes-on, stopped .span .inside)
+
+    pub breaks : s ≡ Step.Broken → judgedLo Judged.Broken ≡ locatedIn client (decode stream)
+    breaks b = broken-at client name stream best level control f reached span (stopped .span) s (stopped .is) b
+
+    pub prefix-there : (lo : Lo) → s ≡ Step.Location lo → 2 ≤ length (take (m - a) (drop a stream))
+    prefix-there lo b = located-at client name stream best level control f reached span (stopped .span) s (stopped .is) lo b .1
+
+    pub location-goes : (lo : Lo) → s ≡ Step.Location lo → (next : Located) → bestSeen next ≡ better client (bestSeen best) (location (drop 2 (take (m - a) (drop a stream))) (loBytes lo))
+        → Going client name stream next level control n
+    location-goes lo b next e = location-at client name stream best level control f reached span (stopped .span) s (stopped .is) lo b next e
+
+    pub both-goes : (l c : Part) → s ≡ Step.Both → l ≡ grownTo level f n → c ≡ grownTo control f n → Going client name stream best l c n
+    both-goes l c b y z = both-at client name stream best level control f reached span (stopped .span) s (stopped .is) l c b y z
+
+    pub candidate-goes : (l : Part) → s ≡ Step.Candidate → l ≡ grownTo level f n → Going client name stream best l control n
+    candidate-goes l b y = candidate-at client name stream best level control f reached span (stopped .span) s (stopped .is) l b y
+
+    pub control-goes : (c : Part) → s ≡ Step.Control → c ≡ grownTo control f n → Going client name stream best level c n
+    control-goes c b z = control-at client name stream best level control f reached span (stopped .span) s (stopped .is) c b z
+
+    pub other-goes : s ≡ Step.Other → Going client name stream best level control n
+    other-goes b = other-at client name stream best level control f reached span (stopped .span) s (stopped .is) b
 
 module _ (client name stream : List ℕ) (best : Located) (level control : Part) (at : ℕ) (g : Going client name stream best level control at) (h : length stream ≤ at) where
   pub all-located : judgedLo (Judged.Whole (best .lo) (level .from) (level .until) (control .from) (control .until)) ≡ locatedIn client (decode stream)
@@ -243,7 +235,7 @@ module _ (client name stream : List ℕ) (best : Located) (level control : Part)
     covers Role.Zone name stream (control .from) (control .until) at (g .zone-passed) (g .inside) h,
   )
 
-pub ruleset locate·laws = (needs, at-first, breaks, better-goes, both-goes, candidate-goes, control-goes, other-goes, all-located, all-covered)
+pub ruleset locate·laws = (needs, at-first, ended-goes, key-ordered, key-inside, stop-less, breaks, prefix-there, location-goes, both-goes, candidate-goes, control-goes, other-goes, all-located, all-covered)
 
 -- ---- a part
 

@@ -63,23 +63,14 @@ pub ruleset better·laws = (needs, no-match, too-short, longer)
 
 -- ---- one record
 
-module _ (client name : List ℕ) (located : Located) (key rdata : List ℕ) (seen : Seen) (e : seenRecord key rdata seen ≡ recordIn key rdata) where
-  pub step-broken : seen ≡ Seen.Broken → stepSeen Step.Broken ≡ stepOf client name (bestSeen located) key (recordIn key rdata)
+module _ (name key rdata : List ℕ) (seen : Seen) (e : seenRecord key rdata seen ≡ recordIn key rdata) where
+  pub step-broken : seen ≡ Seen.Broken → stepSeen Step.Broken ≡ stepOf name key (recordIn key rdata)
   unfolding seenRecord stepSeen stepOf
   step-broken q = rw (← e, q)
 
-  module _ (found : Lo) (q : seen ≡ Seen.Location found) where
-    is-location : recordIn key rdata ≡ some (location (drop 2 key) (loBytes found))
-    unfolding seenRecord
-    is-location = sym e ∙ ap (seenRecord key rdata) q
-
-    pub prefix-there : 2 ≤ length key
-    prefix-there = omega (arith, ap length (shaped key rdata _ is-location .0))
-
-    pub step-location : (r : Located) → bestSeen r ≡ better client (bestSeen located) (location (drop 2 key) (loBytes found))
-        → stepSeen (Step.Better r) ≡ stepOf client name (bestSeen located) key (recordIn key rdata)
-    unfolding stepSeen stepOf
-    step-location r b = rw (is-location, b)
+  pub step-location : (found : Lo) → seen ≡ Seen.Location found → stepSeen (Step.Location found) ≡ stepOf name key (recordIn key rdata)
+  unfolding seenRecord stepSeen stepOf
+  step-location found q = rw (← e, q)
 
   module _ (w : Bool) (type : ℕ) (shared : Shared) (fixed : ℕ) (q : seen ≡ Seen.Resource w type shared fixed) (t : Bool) (k : t ≡ endsIn name key) where
     owned : recordIn key rdata ≡ some (resource (ownerOf w key) type (loBytes (shared .lo)) (shared .ttl .0) (shared .time .0) (drop fixed rdata))
@@ -88,15 +79,15 @@ module _ (client name : List ℕ) (located : Located) (key rdata : List ℕ) (se
     marked : wild (ownerOf w key) ≡ w
     marked = owner-wild w key (good-key key rdata seen e w type shared fixed q)
 
-    pub step-other : not t ≡ true → stepSeen Step.Other ≡ stepOf client name (bestSeen located) key (recordIn key rdata)
+    pub step-other : not t ≡ true → stepSeen Step.Other ≡ stepOf name key (recordIn key rdata)
     unfolding stepSeen stepOf pick
     step-other n = rw (owned, ← k, not-true t n)
 
-    pub step-related : (r : Step) → not t ≡ false → stepSeen r ≡ relatedStep name key w type → stepSeen r ≡ stepOf client name (bestSeen located) key (recordIn key rdata)
+    pub step-related : (r : Step) → not t ≡ false → stepSeen r ≡ relatedStep name key w type → stepSeen r ≡ stepOf name key (recordIn key rdata)
     unfolding stepOf pick
     step-related r n h = rw (owned, marked, ← k, not-false t n) h
 
-pub ruleset step·laws = (needs, step-broken, prefix-there, step-location, step-other, step-related)
+pub ruleset step·laws = (needs, step-broken, step-location, step-other, step-related)
 
 -- ---- a record whose key the name ends in
 

@@ -3,3 +3,4 @@ pub mod Grown
 pub mod Locations
 pub mod Reaches
 pub mod Steps
+pub mod Stops

@@ -6,22 +6,20 @@ use mathlib.Core.Option.{Option, none, some}
 use lib.ListN.{length}
 use lib.Dec.{eqb}
 use Rattle.rules.specs.Lists.{pick}
-use Rattle.rules.specs.Records.{Record, location, resource}
+use Rattle.rules.specs.Records.{Record, location, resource, loBytes}
 use Rattle.rules.specs.Bytes.{wild}
-use Rattle.rules.specs.Questions.{Best, better}
 use Rattle.ranks.specs.Ranks.{endsIn}
 use Rattle.locate.specs.declared.Step.{Step}
-use Rattle.locate.specs.Locations.{bestSeen}
 
--- what a record is to the pass: malformed; a location, with the best one then; or one that may answer, may make a control name, both or neither
+-- what a record is to the pass: malformed; a location, with its lo; or one that may answer, may make a control name, both or neither
 pub data Stepped : Type 0 where
   malformed : Stepped
-  located : Best → Stepped
+  located : List ℕ → Stepped
   seen : Bool → Bool → Stepped
 
 unfoldable pub stepSeen : Step → Stepped
 stepSeen Step.Broken = malformed
-stepSeen (Step.Better best) = located (bestSeen best)
+stepSeen (Step.Location lo) = located (loBytes lo)
 stepSeen Step.Both = seen true true
 stepSeen Step.Candidate = seen true false
 stepSeen Step.Control = seen false true
@@ -38,7 +36,7 @@ mayControl w type = not w && (eqb type 2 || eqb type 6)
 unfoldable pub relatedStep : List ℕ → List ℕ → Bool → ℕ → Stepped
 relatedStep name key w type = seen (mayAnswer name key w) (mayControl w type)
 
-unfoldable pub stepOf : List ℕ → List ℕ → Best → List ℕ → Option Record → Stepped
-stepOf client name best key none = malformed
-stepOf client name best key (some (location prefix lo)) = located (better client best (location prefix lo))
-stepOf client name best key (some (resource owner type lo ttl time rdata)) = pick (endsIn name key) (relatedStep name key (wild owner) type) (seen false false)
+unfoldable pub stepOf : List ℕ → List ℕ → Option Record → Stepped
+stepOf name key none = malformed
+stepOf name key (some (location prefix lo)) = located lo
+stepOf name key (some (resource owner type lo ttl time rdata)) = pick (endsIn name key) (relatedStep name key (wild owner) type) (seen false false)

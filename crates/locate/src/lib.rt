@@ -12,6 +12,7 @@ ghost use Rattle.locate.specs.Covers.{Covered};
 ghost use Rattle.locate.specs.Locations.{bestSeen, judgedLo, locatedIn};
 ghost use Rattle.locate.specs.Grown.{grownTo};
 ghost use Rattle.locate.specs.Steps.{seen, relatedStep, stepSeen, stepOf};
+ghost use Rattle.locate.specs.Stops.{IsStop};
 use judge::Seen;
 use judge::record_in;
 use ranks::is_end;
@@ -24,15 +25,21 @@ struct Located {
     least: usize,
 }
 
-// What a record is to the pass: malformed, a location, with the better of it and the one so far, one that may answer, one that may make a control
-// name, both, or any other.
+// What a record is to the pass: malformed, a location, one that may answer, one that may make a control name, both, or any other.
 enum Step {
     Broken,
-    Better(Located),
+    Location(Lo),
     Both,
     Candidate,
     Control,
     Other,
+}
+
+// What stands behind records that are nothing to the pass: the end; or a record that is something to it, where it begins, where its key and its
+// data begin, and where it ends.
+enum Stop {
+    Ended,
+    At(Step, usize, usize, usize, usize),
 }
 
 // A part of a stream, from one place up to another; its end is 0 where nothing was found.
@@ -123,12 +130,12 @@ fn controls(own: bool) -> Step
 }
 
 // What a record is to the pass.
-fn step_in(client: &[u8], name: &[u8], located: Located, key: &[u8], rdata: &[u8]) -> Step
-    ensures { λ r. ⌜ stepSeen r ≡ stepOf (now (client .entry)) (map lower (now (name .entry))) (bestSeen located) (now (key .entry)) (recordIn (now (key .entry)) (now (rdata .entry))) ⌝ }
+fn step_in(name: &[u8], key: &[u8], rdata: &[u8]) -> Step
+    ensures { λ r. ⌜ stepSeen r ≡ stepOf (map lower (now (name .entry))) (now (key .entry)) (recordIn (now (key .entry)) (now (rdata .entry))) ⌝ }
 {
     match record_in(key, rdata) {
         Seen::Broken => Step::Broken,
-        Seen::Location(found) => Step::Better(better_in(client, located, found, key)),
+        Seen::Location(found) => Step::Location(found),
         Seen::Resource {
             wild,
             rtype,
@@ -141,6 +148,31 @@ fn step_in(client: &[u8], name: &[u8], located: Located, key: &[u8], rdata: &[u8
             related_step(name, key, wild, rtype)
         }
     }
+}
+
+// Passes over records that are nothing to the pass. Most are, so this loop keeps no more than it needs to judge them.
+fn next_stop(stream: &[u8], name: &[u8], from: usize) -> Stop
+    requires { ⌜ from ≤ length (now stream) ⌝ }
+    ensures { λ r. ⌜ IsStop (map lower (now (name .entry))) (now (stream .entry)) from r ⌝ }
+{
+    let n = stream.len();
+    let mut at = from;
+    while at < n {
+        let span = span_at(stream, at);
+        let start = span.start;
+        let middle = span.middle;
+        let next = span.next;
+        let step = step_in(name, &stream[start..middle], &stream[middle..next]);
+        match step {
+            Step::Other => {
+                at = next;
+            }
+            _ => {
+                return Stop::At(step, at, start, middle, next);
+            }
+        }
+    }
+    Stop::Ended
 }
 
 // A part up to the end of one more record.
@@ -172,40 +204,35 @@ pub fn judge_and_locate(stream: &[u8], client: &[u8], name: &[u8]) -> Judged
     let mut control = Part { from: 0, until: 0 };
     let mut at: usize = 0;
     while at < n {
-        let span = span_at(stream, at);
-        let start = span.start;
-        let middle = span.middle;
-        let next = span.next;
-        match step_in(
-            client,
-            name,
-            located,
-            &stream[start..middle],
-            &stream[middle..next],
-        ) {
-            Step::Broken => {
-                return Judged::Broken;
+        match next_stop(stream, name, at) {
+            Stop::Ended => {
+                at = n;
             }
-            Step::Better(better) => {
-                located = better;
-                at = next;
-            }
-            Step::Both => {
-                level = grown(level, at, next);
-                control = grown(control, at, next);
-                at = next;
-            }
-            Step::Candidate => {
-                level = grown(level, at, next);
-                at = next;
-            }
-            Step::Control => {
-                control = grown(control, at, next);
-                at = next;
-            }
-            Step::Other => {
-                at = next;
-            }
+            Stop::At(step, found, start, middle, next) => match step {
+                Step::Broken => {
+                    return Judged::Broken;
+                }
+                Step::Location(lo) => {
+                    located = better_in(client, located, lo, &stream[start..middle]);
+                    at = next;
+                }
+                Step::Both => {
+                    level = grown(level, found, next);
+                    control = grown(control, found, next);
+                    at = next;
+                }
+                Step::Candidate => {
+                    level = grown(level, found, next);
+                    at = next;
+                }
+                Step::Control => {
+                    control = grown(control, found, next);
+                    at = next;
+                }
+                Step::Other => {
+                    at = next;
+                }
+            },
         }
     }
     let lo = located.lo;

@@ -11,9 +11,6 @@ enum-told c = search step·laws
 enum-known-found : tie.Need-enum-known-found
 enum-known-found c = search step·laws
 
-better-in-requires : tie.Need-better-in-requires
-better-in-requires c κs = search step·laws
-
 enum-known-wild : tie.Need-enum-known-wild
 enum-known-wild c = search step·laws
 
@@ -42,7 +39,6 @@ step-in-spec =
     record-in-requires
     enum-told
     enum-known-found
-    better-in-requires
     enum-known-wild
     is-end-requires
     returns
