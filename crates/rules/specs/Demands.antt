@@ -1,7 +1,7 @@
 -- What is demanded of compiling and asking, as statements about the definitions. proofs/Refusals.antt and proofs/Meaning.antt prove them.
 use Prim.Native.Nat.{ℕ, suc, _+_, _≤_, _<_}
 use mathlib.Core.Path.{_≡_}
-use mathlib.Core.Bool.{Bool, true, false, not}
+use mathlib.Core.Bool.{not}
 use mathlib.Core.List.{List, []}
 use mathlib.Core.Logic.{_⊎_}
 use mathlib.Core.Option.{Option, none, some}
@@ -9,7 +9,6 @@ use lib.ListN.{length, drop, take, getD, getElem?}
 use lib.Dec.{T}
 use Rattle.rules.specs.declared.faults.Answer.{Answer}
 use Rattle.rules.specs.declared.faults.Fault.{Fault}
-use Rattle.rules.specs.declared.replies.Outcome.{Outcome}
 use Rattle.rules.specs.declared.replies.Reply.{Reply}
 use Rattle.rules.specs.declared.replies.Response.{Response}
 use Rattle.rules.specs.Lists.{all}
@@ -18,7 +17,7 @@ use Rattle.rules.specs.Names.{isWire}
 use Rattle.rules.specs.Records.{Record}
 use Rattle.rules.specs.Bytes.{rdataOf, sizeOfAll}
 use Rattle.rules.specs.Answers.{answer, lineFault, isGood, longestSource, sourceRecords, compileAnswer, compileOutput}
-use Rattle.rules.specs.Questions.{Question, Placed, placedFrom, isFull, answers, lifetimeOf}
+use Rattle.rules.specs.Questions.{Question, Placed, placedFrom, answers, lifetimeOf}
 use Rattle.rules.specs.Reading.{momentEnd, typeOf, askResponse}
 
 -- "A source is accepted if it isn't too long and no line is bad"
@@ -88,15 +87,3 @@ CompilingKeepsTheMeaning =
     → q .moment < momentEnd
     → (length (q .client) ≡ 4) ⊎ (length (q .client) ≡ 16)
     → Tells (compiledBytes source serial out) (sourceRecords serial source) q ordinal (askResponse (compiledBytes source serial out) q ordinal)
-
--- W8: a list with records comes with two outcomes alone, a referral and records, and these never without
-abbrev pub hasRecords : Outcome → Bool
-hasRecords Outcome.Refused = false
-hasRecords Outcome.NotOurs = false
-hasRecords Outcome.Referral = true
-hasRecords Outcome.Records = true
-hasRecords Outcome.NoSuchType = false
-hasRecords Outcome.NoSuchName = false
-
-unfoldable pub OutcomesFitLists : Type 0
-OutcomesFitLists = (q : Question) (ps : List Placed) → isFull (answers q ps .list) ≡ hasRecords (answers q ps .outcome)

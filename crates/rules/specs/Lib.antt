@@ -9,5 +9,7 @@ pub mod Answers
 pub mod Questions
 pub mod Reading
 pub mod Demands
+pub mod Outcomes
 pub mod Bench
 pub mod Examples
+pub mod OutcomeExamples
