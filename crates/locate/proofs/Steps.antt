@@ -3,12 +3,12 @@ use mathlib.Core.Path.{_≡_, ap, _∙_, sym}
 use mathlib.Core.Bool.{Bool, true, false, not, and-true, and-false}
 use mathlib.Core.List.{List, [], _∷_, map}
 use mathlib.Core.Option.{some}
-use Prim.Native.Nat.{ℕ, suc, _+_, _-_, _<_, _≤_}
+use Prim.Native.Nat.{ℕ, suc, _+_, _*_, _-_, _<_, _≤_}
 use native.Mathlib.Omega.{arith}
 use native.Mathlib.Numerals.{add-one}
 use borrow.Author.Needs.{needs}
 use borrow.Author.Tests.{eq-eqb, ne-eqb, le-leb, lt-leb, not-true, not-false}
-use lib.ListN.{length, take, drop, length-drop, length-map}
+use lib.ListN.{length, take, drop, getD, length-drop, length-map}
 use lib.Dec.{eqb}
 use Rattle.rules.specs.declared.quantities.Lo.{Lo}
 use Rattle.rules.specs.declared.quantities.Shared.{Shared}
@@ -26,6 +26,7 @@ use Rattle.locate.specs.declared.Located.{Located}
 use Rattle.locate.specs.declared.Step.{Step}
 use Rattle.locate.specs.Locations.{bestSeen}
 use Rattle.locate.specs.Steps.{mayAnswer, mayControl, relatedStep, stepSeen, stepOf}
+use Rattle.locate.proofs.Types.{type-is}
 
 -- ---- a prefix
 
@@ -83,11 +84,17 @@ module _ (name key rdata : List ℕ) (seen : Seen) (e : seenRecord key rdata see
     unfolding stepSeen stepOf pick
     step-other n = rw (owned, ← k, not-true t n)
 
-    pub step-related : (r : Step) → not t ≡ false → stepSeen r ≡ relatedStep name key w type → stepSeen r ≡ stepOf name key (recordIn key rdata)
-    unfolding stepOf pick
-    step-related r n h = rw (owned, marked, ← k, not-false t n) h
+    pub data-there : 2 ≤ length rdata
+    data-there = omega (arith, shaped key rdata _ owned .long)
 
-pub ruleset step·laws = (needs, step-broken, step-location, step-other, step-related)
+    pub step-related : (r : Step) (n : ℕ) → n ≡ getD rdata 0 0 * 256 + getD rdata 1 0 → not t ≡ false → stepSeen r ≡ relatedStep name key w n
+        → stepSeen r ≡ stepOf name key (recordIn key rdata)
+    unfolding stepOf pick
+    step-related r n e f h =
+        let same : type ≡ n = type-is key rdata _ _ _ type _ _ owned ∙ sym e in
+        rw (owned, marked, ← k, not-false t f, same) h
+
+pub ruleset step·laws = (needs, step-broken, step-location, step-other, data-there, step-related)
 
 -- ---- a record whose key the name ends in
 

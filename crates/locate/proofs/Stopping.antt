@@ -154,8 +154,8 @@ module _ (name stream : List ℕ) (from at : ℕ) (p : Plain name stream from at
         no-rank m Role.Control here moment = unfold rankIn in (m .control refl here moment ∙ ap (rankIn Role.Control name here moment) (m .read .is))
         no-rank m Role.Zone here moment = unfold rankIn in (m .zone refl here moment ∙ ap (rankIn Role.Zone name here moment) (m .read .is))
 
-    pub stops-at : IsStop name stream from (Stop.At r at (span .start) (span .middle) (span .next))
-    stops-at = record { plain = p; span = i; is = q }
+    pub stops-at : (x : Step) → r ≡ x → IsStop name stream from (Stop.At x at (span .start) (span .middle) (span .next))
+    stops-at x e = record { plain = p; span = i; is = sym (ap stepSeen e) ∙ q }
 
 pub stops-nowhere : (name stream : List ℕ) (from at : ℕ) → Plain name stream from at → length stream ≤ at → IsStop name stream from Stop.Ended
 stops-nowhere name stream from at p h = let e : at ≡ length stream = omega (arith, p .inside) in rw e at p

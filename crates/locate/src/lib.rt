@@ -2,8 +2,8 @@
 ghost use mathlib.Core.Path.{_≡_};
 ghost use mathlib.Core.Bool.{true};
 ghost use mathlib.Core.List.{map};
-ghost use Prim.Native.Nat.{_≤_};
-ghost use lib.ListN.{length, drop};
+ghost use Prim.Native.Nat.{_+_, _*_, _≤_};
+ghost use lib.ListN.{length, drop, getD};
 ghost use Rattle.rules.specs.Lists.{lower, beginsWith};
 ghost use Rattle.rules.specs.Records.{location, loBytes};
 ghost use Rattle.rules.specs.Questions.{matches, better};
@@ -18,6 +18,7 @@ use judge::record_in;
 use ranks::is_end;
 use rules::quantities::Lo;
 use stream::span_at;
+use wire::get::wide;
 
 // The location of the longest prefix so far, and how long a better prefix is at least.
 struct Located {
@@ -129,6 +130,16 @@ fn controls(own: bool) -> Step
     Step::Control
 }
 
+// The type of a record by its data: it is read for the few records that want it, and not for each that is judged.
+fn type_in(rdata: &[u8]) -> u16
+    requires { ⌜ 2 ≤ length (now rdata) ⌝ }
+    ensures { λ r. ⌜ r ≡ getD (now (rdata .entry)) 0 0 * 256 + getD (now (rdata .entry)) 1 0 ⌝ }
+{
+    let high = wide(rdata[0]);
+    let low = wide(rdata[1]);
+    (high * 256 + low) as u16
+}
+
 // What a record is to the pass.
 fn step_in(name: &[u8], key: &[u8], rdata: &[u8]) -> Step
     ensures { λ r. ⌜ stepSeen r ≡ stepOf (map lower (now (name .entry))) (now (key .entry)) (recordIn (now (key .entry)) (now (rdata .entry))) ⌝ }
@@ -138,14 +149,14 @@ fn step_in(name: &[u8], key: &[u8], rdata: &[u8]) -> Step
         Seen::Location(found) => Step::Location(found),
         Seen::Resource {
             wild,
-            rtype,
+            rtype: _,
             shared: _,
             fixed: _,
         } => {
             if !is_end(name, key) {
                 return Step::Other;
             }
-            related_step(name, key, wild, rtype)
+            related_step(name, key, wild, type_in(rdata))
         }
     }
 }
@@ -162,13 +173,24 @@ fn next_stop(stream: &[u8], name: &[u8], from: usize) -> Stop
         let start = span.start;
         let middle = span.middle;
         let next = span.next;
-        let step = step_in(name, &stream[start..middle], &stream[middle..next]);
-        match step {
+        match step_in(name, &stream[start..middle], &stream[middle..next]) {
             Step::Other => {
                 at = next;
             }
-            _ => {
-                return Stop::At(step, at, start, middle, next);
+            Step::Broken => {
+                return Stop::At(Step::Broken, at, start, middle, next);
+            }
+            Step::Location(lo) => {
+                return Stop::At(Step::Location(lo), at, start, middle, next);
+            }
+            Step::Both => {
+                return Stop::At(Step::Both, at, start, middle, next);
+            }
+            Step::Candidate => {
+                return Stop::At(Step::Candidate, at, start, middle, next);
+            }
+            Step::Control => {
+                return Stop::At(Step::Control, at, start, middle, next);
             }
         }
     }

@@ -49,11 +49,38 @@ loop-less c = search stop·laws
 loop-again : tie.Need-loop-again Inv-loop μ-loop
 loop-again c = search stop·laws
 
+enum-told-2 : tie.Need-enum-told-2 Inv-loop μ-loop
+enum-told-2 c = search stop·laws
+
 returns : tie.Need-returns Inv-loop μ-loop
 returns c = search stop·laws
 
+enum-known-lo : tie.Need-enum-known-lo Inv-loop μ-loop
+enum-known-lo c = search stop·laws
+
 returns-2 : tie.Need-returns-2 Inv-loop μ-loop
 returns-2 c = search stop·laws
+
+enum-told-3 : tie.Need-enum-told-3 Inv-loop μ-loop
+enum-told-3 c = search stop·laws
+
+returns-3 : tie.Need-returns-3 Inv-loop μ-loop
+returns-3 c = search stop·laws
+
+enum-told-4 : tie.Need-enum-told-4 Inv-loop μ-loop
+enum-told-4 c = search stop·laws
+
+returns-4 : tie.Need-returns-4 Inv-loop μ-loop
+returns-4 c = search stop·laws
+
+enum-told-5 : tie.Need-enum-told-5 Inv-loop μ-loop
+enum-told-5 c = search stop·laws
+
+returns-5 : tie.Need-returns-5 Inv-loop μ-loop
+returns-5 c = search stop·laws
+
+returns-6 : tie.Need-returns-6 Inv-loop μ-loop
+returns-6 c = search stop·laws
 
 pub next-stop-spec : {M : Type 1} → statement M
 next-stop-spec =
@@ -73,5 +100,14 @@ next-stop-spec =
     enum-told
     loop-less
     loop-again
+    enum-told-2
     returns
-    returns-2)
+    enum-known-lo
+    returns-2
+    enum-told-3
+    returns-3
+    enum-told-4
+    returns-4
+    enum-told-5
+    returns-5
+    returns-6)

@@ -20,6 +20,9 @@ is-end-requires c κs = search step·laws
 returns : tie.Need-returns
 returns c = search step·laws
 
+type-in-requires : tie.Need-type-in-requires
+type-in-requires c κs = search step·laws
+
 related-step-requires : tie.Need-related-step-requires
 related-step-requires c κs = search step·laws
 
@@ -42,6 +45,7 @@ step-in-spec =
     enum-known-wild
     is-end-requires
     returns
+    type-in-requires
     related-step-requires
     returns-2
     returns-3
