@@ -22,7 +22,10 @@ fn the_readme_shows_what_the_command_prints() {
         if let Some(words) = line.strip_prefix("$ ./vahmizar ") {
             assert_eq!(shown, printed, "in front of: {line}");
             let words: Vec<_> = words.split(' ').collect();
-            printed = folder.good(&words);
+            let run = folder.run(&words);
+            // 1 and 2 are failures, all others ways to end.
+            assert!(!matches!(run.status, 1 | 2), "{line}: {}", run.err);
+            printed = run.out;
             shown.clear();
             commands += 1;
         } else if line.is_empty() || line.starts_with("```") {
