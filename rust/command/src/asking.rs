@@ -1,6 +1,7 @@
 //! `vahmizar ask`.
 
 use std::ffi::OsStr;
+use std::fmt::Write;
 use std::fs;
 use std::net::{IpAddr, Ipv4Addr};
 use std::path::Path;
@@ -12,6 +13,8 @@ use crate::arguments::Arguments;
 use crate::failure::Failure;
 use crate::{moments, names, refusal, say, show, types};
 
+const NO_SUCH_TYPE: &str = "no records of this type, but the name has others";
+const NOT_OURS: &str = "not ours: no zone of these records holds this name";
 const NO_ADDRESS: &str = "this is no address: write it as 192.0.2.1 or 2001:db8::1";
 const NO_TYPE: &str = "this is no record type: write A, MX or another by name, or its number";
 
@@ -34,49 +37,44 @@ pub fn ask(arguments: Arguments) -> Result<ExitCode, Failure> {
     let moment = moment(arguments.at.as_deref())?;
     let question = Question::new(&wire, record_type, client, moment);
     let bytes = fs::read(path).map_err(|error| Failure::file(path, error))?;
-    let reply = Records::new(&bytes)
-        .ask(&question)
-        .map_err(|refused| refusal::of_asking(path, &bytes, refused))?;
-    let name = shown(&wire);
-    let record_type = types::show(record_type);
-    let (said, status) = told(&name, &reply)?;
-    say(&format!("{name} {record_type}: {said}"))?;
+    let records = Records::new(&bytes);
+    let refused = |refused| refusal::of_asking(path, &bytes, refused);
+    let reply = records.ask(&question).map_err(refused)?;
+    let zone = records.zone(&question).map_err(refused)?;
+    let (name, zone) = (shown(&wire), shown(zone.unwrap_or_default()));
+    let (status, words) = ending(&reply, &zone);
+    let mut said = format!("{name} {}: {words}\n", types::show(record_type));
+    match &reply {
+        Reply::Records(answers) => show_records(&mut said, &name, answers),
+        Reply::Referral { servers, .. } => show_records(&mut said, &zone, servers),
+        _ => (),
+    }
+    say(&said)?;
     Ok(ExitCode::from(status))
 }
 
-/// The reply in words, with a line for each record, and the exit status.
-fn told(name: &str, reply: &Reply<'_>) -> Result<(String, u8), Failure> {
-    let plain = |words: &str, status| (format!("{words}\n"), status);
-    Ok(match reply {
-        Reply::Records(answers) => {
-            let plural = if answers.len() == 1 { "" } else { "s" };
-            let words = format!("{} record{plural}\n", answers.len());
-            (words + &lines(name, answers), 0)
-        }
-        Reply::Referral { zone, servers, .. } => {
-            let zone = shown(zone);
-            let words = format!("referral to the name servers of {zone}\n");
-            (words + &lines(&zone, servers), 3)
-        }
-        Reply::NoSuchType => plain("no records of this type, but the name has others", 4),
-        Reply::NoSuchName => plain("no such name in our zone", 5),
-        Reply::NotOurs => plain("not ours: no zone of these records holds this name", 6),
-        other => {
-            let words = format!("vahmizar: no words for {}", other.outcome());
-            return Err(Failure::Trouble(words));
-        }
-    })
+/// How a question ends: the exit status, and words for people.
+fn ending(reply: &Reply<'_>, zone: &str) -> (u8, String) {
+    match reply {
+        Reply::Records(answers) => match answers.len() {
+            1 => (0, "1 record".to_owned()),
+            count => (0, format!("{count} records")),
+        },
+        Reply::Referral { .. } => (3, format!("referral to the name servers of {zone}")),
+        Reply::NoSuchType => (4, NO_SUCH_TYPE.to_owned()),
+        Reply::NoSuchName => (5, format!("no such name in our zone {zone}")),
+        Reply::NotOurs => (6, NOT_OURS.to_owned()),
+        other => (2, other.outcome().to_string()),
+    }
 }
 
-fn lines(owner: &str, answers: &[Answer<'_>]) -> String {
-    answers
-        .iter()
-        .map(|answer| {
-            let record_type = types::show(answer.record_type);
-            let data = show::data(answer.record_type, answer.data);
-            format!("{owner} {} {record_type} {data}\n", answer.lifetime)
-        })
-        .collect()
+fn show_records(said: &mut String, owner: &str, answers: &[Answer<'_>]) {
+    for answer in answers {
+        let record_type = types::show(answer.record_type);
+        let data = show::data(answer.record_type, answer.data);
+        let lifetime = answer.lifetime;
+        writeln!(said, "{owner} {lifetime} {record_type} {data}").expect("strings take all");
+    }
 }
 
 /// A name that is whole.

@@ -47,8 +47,8 @@ Exit status, and what the first line of ask says behind NAME and TYPE:
      ZONE holds the name and is handed on to others, as & lines do it. Its NS
      records follow.
   4  ask: no records of this type, but the name has others
-  5  ask: no such name in our zone
-     A zone of ours holds the name, but it has no records.
+  5  ask: no such name in our zone ZONE
+     ZONE holds the name, but it has no records.
   6  ask: not ours: no zone of these records holds this name
      No . or & line stands at the name or above it, or none that this client
      sees at that moment. (A zone of ours has NS and SOA records, as . lines

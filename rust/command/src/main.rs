@@ -2,6 +2,7 @@
 
 mod arguments;
 mod asking;
+mod calendar;
 mod compiling;
 mod dates;
 mod failure;

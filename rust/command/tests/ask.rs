@@ -140,7 +140,7 @@ fn names_with_odd_bytes() {
     assert_eq!(said, "a\\064b.c A: 1 record\na\\064b.c 86400 A 1.2.3.4\n");
     assert_eq!(folder.good(&["ask", "out", "a\\064b.c", "A"]), said);
     let said = folder.says(&["ask", "out", "a\\.b.c", "A"], 5);
-    assert_eq!(said, "a\\046b.c A: no such name in our zone\n");
+    assert_eq!(said, "a\\046b.c A: no such name in our zone c\n");
 }
 
 #[test]

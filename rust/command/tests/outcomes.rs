@@ -48,7 +48,7 @@ fn each_outcome_has_words_and_a_status() {
         assert_eq!(ask(name, "MX", 4), said);
     }
     for name in ["none.b", "nope.b", "wild.b"] {
-        let said = format!("{name} A: no such name in our zone\n");
+        let said = format!("{name} A: no such name in our zone b\n");
         assert_eq!(ask(name, "A", 5), said);
     }
     for name in ["stray.c", "c", "."] {
@@ -148,7 +148,7 @@ fn help_has_every_status() {
         "  2  wrong usage",
         "  3  ask: referral to the name servers of ",
         "  4  ask: no records of this type, but the name has others",
-        "  5  ask: no such name in our zone",
+        "  5  ask: no such name in our zone ",
         "  6  ask: not ours: no zone of these records holds this name",
     ] {
         assert!(page.lines().any(|said| said.starts_with(line)), "{line}");

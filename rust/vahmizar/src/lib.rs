@@ -42,6 +42,7 @@ mod refusal;
 mod reply;
 pub mod sys;
 mod walk;
+mod zones;
 
 pub use compiling::{check, compile, compile_to_vec, LONGEST_SOURCE};
 pub use moment::Moment;

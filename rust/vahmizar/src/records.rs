@@ -174,20 +174,6 @@ impl<'a> Records<'a> {
             data: &self.bytes[place..][..number(4) as usize],
         }
     }
-
-    /// The key of the record that an answer was taken from: the one that ends
-    /// where its data do. Bytes that were answered from have it.
-    fn key_of(&self, answer: &Answer<'_>) -> &'a [u8] {
-        let mut left = answer.place + answer.data.len();
-        for record in Walk::new(self.bytes) {
-            match left.checked_sub(record.whole.len()) {
-                Some(0) => return record.key,
-                Some(behind) => left = behind,
-                None => break,
-            }
-        }
-        &[]
-    }
 }
 
 #[cfg(test)]

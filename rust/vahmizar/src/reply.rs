@@ -86,7 +86,8 @@ pub struct Told<'a> {
 ///
 /// A CNAME record is a record as any other. A name that has nothing else gives
 /// [`Reply::NoSuchType`] for type A; a server that follows CNAMEs asks for type
-/// 5 then.
+/// 5 then. [`Records::zone`](crate::Records::zone) finds the zone whose SOA
+/// record goes with a negative answer.
 #[derive(Clone, Debug, PartialEq, Eq, Hash)]
 #[non_exhaustive]
 pub enum Reply<'a> {

@@ -4,7 +4,7 @@
 mod names;
 
 use names::wire;
-use vahmizar::{compile_to_vec, sys, Moment, Question, Records, Reply};
+use vahmizar::{compile_to_vec, sys, Answer, Moment, Question, Records, Reply};
 
 const A: u16 = 1;
 const NS: u16 = 2;
@@ -181,37 +181,44 @@ fn the_six_numbers_of_each_call() {
 fn the_same_through_the_wrapper() {
     for (source, cases) in TABLE {
         let bytes = compile_to_vec(source.as_bytes(), 1).expect("a good source");
+        let records = Records::new(&bytes);
         for case in *cases {
             let name = wire(case.name);
             let moment = Moment::from_tai64(case.moment);
-            let question = Question::new(&name, case.record_type, case.client, moment);
-            let reply = Records::new(&bytes).ask(&question).expect("good records");
-            assert_eq!(
-                reply.outcome().number(),
-                case.outcome,
-                "{source:?} {question:?}"
-            );
+            let mut question = Question::new(&name, case.record_type, case.client, moment);
+            let words = format!("{source:?}: {question:?}");
+            let reply = records.ask(&question).expect("good records");
+            let zone = records.zone(&question).expect("good records");
+            assert_eq!(reply.outcome().number(), case.outcome, "{words}");
             let answers = match reply {
                 Reply::Records(answers) => answers,
-                Reply::Referral { servers, .. } => servers,
+                Reply::Referral {
+                    servers, zone: its, ..
+                } => {
+                    assert_eq!(zone, Some(its), "{words}");
+                    servers
+                }
                 _ => vec![],
             };
-            let rows: Vec<_> = answers
-                .iter()
-                .map(|answer| {
-                    let [place, length] = [answer.place, answer.data.len()].map(|n| n as u64);
-                    assert_eq!(answer.data, &bytes[answer.place..][..answer.data.len()]);
-                    [
-                        answer.record_type.into(),
-                        answer.lifetime.into(),
-                        place,
-                        length,
-                    ]
-                })
-                .collect();
-            assert_eq!(rows, case.rows, "{source:?} {question:?}");
+            let rows: Vec<_> = answers.iter().map(|answer| row(&bytes, answer)).collect();
+            assert_eq!(rows, case.rows, "{words}");
+
+            // A zone of ours has a SOA record, others haven't.
+            assert_eq!(zone.is_none(), case.outcome == 1, "{words}");
+            question.name = zone.unwrap_or(&name);
+            question.record_type = SOA;
+            let authority = records.ask(&question).expect("good records");
+            let ours = matches!(authority, Reply::Records(_));
+            assert_eq!(ours, case.outcome >= 3, "{words}");
         }
     }
+}
+
+fn row(bytes: &[u8], answer: &Answer<'_>) -> Row {
+    assert_eq!(answer.data, &bytes[answer.place..][..answer.data.len()]);
+    let [place, length] = [answer.place, answer.data.len()].map(|number| number as u64);
+    let (record_type, lifetime) = (answer.record_type.into(), answer.lifetime.into());
+    [record_type, lifetime, place, length]
 }
 
 fn numbers(bytes: &[u8], case: &Case, ordinal: u64) -> [u64; 6] {
