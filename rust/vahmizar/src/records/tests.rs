@@ -75,3 +75,18 @@ fn the_end_of_whole_records() {
     damaged[flag] = b'!';
     assert_eq!(Records::new(&damaged).valid_up_to(), ends[0]);
 }
+
+#[test]
+fn whole_records_end_where_judging_says_so() {
+    let bytes = compile_to_vec(b"%aa:10\n+a.b:192.0.2.1:::aa\n'*.b:x", 7).unwrap();
+    for place in 0..bytes.len() {
+        for change in [1, 0x0a, 0x20, 0x80, 0xff] {
+            let mut damaged = bytes.clone();
+            damaged[place] ^= change;
+            let records = Records::new(&damaged);
+            let end = records.valid_up_to();
+            assert_eq!(records.check().is_ok(), end == damaged.len());
+            assert_eq!(Records::new(&damaged[..end]).check(), Ok(()));
+        }
+    }
+}
