@@ -22,9 +22,9 @@ fn the_readme_shows_what_the_command_prints() {
         if let Some(words) = line.strip_prefix("$ ./vahmizar ") {
             assert_eq!(shown, printed, "in front of: {line}");
             let words: Vec<_> = words.split(' ').collect();
+            // Failures have a message; the other ways to end have none.
             let run = folder.run(&words);
-            // 1 and 2 are failures, all others ways to end.
-            assert!(!matches!(run.status, 1 | 2), "{line}: {}", run.err);
+            assert_eq!(run.err, "", "{line}");
             printed = run.out;
             shown.clear();
             commands += 1;
