@@ -88,9 +88,10 @@ impl Arguments {
     }
 }
 
-/// A lone dash is a plain word.
+/// A lone dash and a negative number are plain words.
 fn is_option(text: &str) -> bool {
-    text.starts_with('-') && text != "-"
+    let second = text.strip_prefix('-').and_then(|rest| rest.bytes().next());
+    second.is_some_and(|byte| !byte.is_ascii_digit())
 }
 
 fn following(option: &str, value: Option<OsString>) -> Result<String, Failure> {

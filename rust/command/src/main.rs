@@ -2,14 +2,18 @@
 
 mod arguments;
 mod asking;
+mod calendar;
 mod compiling;
+mod dates;
 mod failure;
 mod help;
+mod lookalikes;
 mod moments;
 mod names;
 mod output;
 mod refusal;
 mod show;
+mod timing;
 mod types;
 
 use std::env;
@@ -21,7 +25,7 @@ use failure::Failure;
 
 fn main() -> ExitCode {
     match run() {
-        Ok(()) => ExitCode::SUCCESS,
+        Ok(status) => status,
         Err(failure) => {
             // Nothing is left to do where even this can't be said.
             let _ = writeln!(io::stderr(), "{failure}");
@@ -30,25 +34,25 @@ fn main() -> ExitCode {
     }
 }
 
-fn run() -> Result<(), Failure> {
+fn run() -> Result<ExitCode, Failure> {
     let mut words = env::args_os().skip(1);
     let Some(command) = words.next() else {
         return Err(Failure::usage("no command given"));
     };
     let arguments = Arguments::sort(words)?;
-    if arguments.help {
-        return say(help::TEXT);
-    }
-    match command.to_str() {
+    let done = match command.to_str() {
+        _ if arguments.help => say(help::TEXT),
         Some("compile") => compiling::compile(arguments),
         Some("check") => compiling::check(arguments),
-        Some("ask") => asking::ask(arguments),
+        Some("ask") => return asking::ask(arguments),
+        Some("time") => timing::time(arguments),
         Some("help" | "--help" | "-h") => say(help::TEXT),
         _ => {
             let command = command.display();
             Err(Failure::usage(format!("no such command: {command}")))
         }
-    }
+    };
+    done.map(|()| ExitCode::SUCCESS)
 }
 
 /// Writes to the standard output; what can't be written is a failure. One who

@@ -3,9 +3,10 @@
 use std::fmt::Write;
 use std::path::Path;
 
-use vahmizar::{AskRefusal, Fault, Refusal};
+use vahmizar::{AskRefusal, Fault, Records, Refusal};
 
 use crate::failure::Failure;
+use crate::lookalikes::Lookalike;
 
 /// Most bytes of a source that a message shows.
 const MOST_SHOWN: usize = 200;
@@ -34,12 +35,24 @@ pub fn of_source(path: &Path, source: &[u8], refusal: Refusal) -> Failure {
 }
 
 /// Refused records, or a refused question.
-pub fn of_asking(path: &Path, refusal: AskRefusal) -> Failure {
-    let refused = match refusal {
-        AskRefusal::Records => path.display().to_string(),
-        _ => "question".to_owned(),
+pub fn of_asking(path: &Path, bytes: &[u8], refusal: AskRefusal) -> Failure {
+    if refusal != AskRefusal::Records {
+        return Failure::Refused(format!("question: {refusal}"));
+    }
+    let path = path.display();
+    let end = Records::new(bytes).valid_up_to();
+    let instead = match Lookalike::of(bytes) {
+        Some(Lookalike::Source) => {
+            format!("This looks like a source. Compile it first: vahmizar compile {path} OUT")
+        }
+        Some(Lookalike::Database) => "This looks like a data.cdb. Records alone are wanted, \
+             as vahmizar compile DATA OUT writes them."
+            .to_owned(),
+        None => "Wanted is what vahmizar compile DATA OUT writes into OUT.".to_owned(),
     };
-    Failure::Refused(format!("{refused}: {refusal}"))
+    Failure::Refused(format!(
+        "{path}: {refusal}: they stop being records at byte {end}, counted from 0\n    {instead}"
+    ))
 }
 
 /// The field's text, or the whole line where the field is empty or none.

@@ -111,7 +111,8 @@ fn the_serial() {
     folder.write("data", ".b");
     let serial = |words: &[&str]| -> u32 {
         folder.good(&[&["compile", "data", "out"], words].concat());
-        let soa = folder.good(&["ask", "out", "b", "SOA"]);
+        let said = folder.good(&["ask", "out", "b", "SOA"]);
+        let soa = said.lines().nth(1).unwrap();
         soa.split(' ').nth(5).unwrap().parse().unwrap()
     };
     assert_eq!(serial(&["--serial", "4294967295"]), u32::MAX);

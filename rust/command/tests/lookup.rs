@@ -45,7 +45,7 @@ fn a_refused_source_is_told_by_place_number_and_words() {
 fn what_cant_be_read_is_told_and_the_rest_is_done() {
     let Some(lookup) = program() else { return };
     let folder = Folder::new("lookup-unread");
-    folder.write("data", "+a:1.2.3.4\n");
+    folder.write("data", ".a\n+a:1.2.3.4\n");
     folder.write("long", "#\n".repeat(32_769));
     folder.write(
         "questions",
@@ -53,7 +53,7 @@ fn what_cant_be_read_is_told_and_the_rest_is_done() {
     );
 
     let run = folder.run_program(&lookup, &["data", "questions"]);
-    let answers = "4000000038af0000 203.0.113.7 1 a\n  1 86400 01020304\n\
+    let answers = "4000000038af0000 203.0.113.7 1 a\n  records\n  1 86400 01020304\n\
                    8000000000000000 203.0.113.7 1 a\n  16 moment out of range\n";
     assert_eq!(run.out, answers);
     assert!(run.err.starts_with("questions:2: "), "{}", run.err);

@@ -22,7 +22,10 @@ fn the_readme_shows_what_the_command_prints() {
         if let Some(words) = line.strip_prefix("$ ./vahmizar ") {
             assert_eq!(shown, printed, "in front of: {line}");
             let words: Vec<_> = words.split(' ').collect();
-            printed = folder.good(&words);
+            // Failures have a message; the other ways to end have none.
+            let run = folder.run(&words);
+            assert_eq!(run.err, "", "{line}");
+            printed = run.out;
             shown.clear();
             commands += 1;
         } else if line.is_empty() || line.starts_with("```") {

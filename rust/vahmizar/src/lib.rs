@@ -4,24 +4,25 @@
 //! it slices and turns its numbers into Rust values. Nothing here panics or
 //! reads out of bounds, whatever source, records or question it is given.
 //!
-//! A name server compiles its source once, keeps the bytes, and asks them:
+//! A name server compiles its source once, keeps the bytes, and asks them. The
+//! reply says which response to send:
 //!
 //! ```
-//! use vahmizar::{compile_to_vec, Moment, Question, Records};
+//! use vahmizar::{compile_to_vec, Moment, Question, Records, Reply};
 //!
-//! let bytes = compile_to_vec(b"+a.b:192.0.2.1\n+a.b:192.0.2.2", 1)?;
-//! let records = Records::new(&bytes);
-//! let question = Question {
-//!     name: b"\x01a\x01b\x00",
-//!     record_type: 1,
-//!     client: [192, 0, 2, 9].into(),
-//!     moment: Moment::now(),
-//! };
-//! let mut addresses = Vec::new();
-//! for answer in records.answers(question) {
-//!     addresses.push(answer?.data);
+//! let bytes = compile_to_vec(b".b:192.0.2.1:a\n+h.b:192.0.2.2\n+h.b:192.0.2.3\n", 1)?;
+//! let name = b"\x01h\x01b\x00";
+//! let question = Question::new(name, 1, [192, 0, 2, 9], Moment::now());
+//! match Records::new(&bytes).ask(&question)? {
+//!     Reply::Records(answers) => {
+//!         let addresses: Vec<_> = answers.iter().map(|answer| answer.data).collect();
+//!         assert_eq!(addresses, [[192, 0, 2, 2], [192, 0, 2, 3]]);
+//!     }
+//!     Reply::Referral { zone, servers, .. } => panic!("to {servers:?} for {zone:?}"),
+//!     Reply::NoSuchType => panic!("NOERROR without answers"),
+//!     Reply::NoSuchName => panic!("NXDOMAIN"),
+//!     _ => panic!("REFUSED"),
 //! }
-//! assert_eq!(addresses, [[192, 0, 2, 1], [192, 0, 2, 2]]);
 //! # Ok::<(), Box<dyn std::error::Error>>(())
 //! ```
 //!
@@ -35,14 +36,20 @@
 
 mod compiling;
 mod moment;
+mod question;
 mod records;
 mod refusal;
+mod reply;
 pub mod sys;
+mod walk;
+mod zones;
 
 pub use compiling::{check, compile, compile_to_vec, LONGEST_SOURCE};
 pub use moment::Moment;
-pub use records::{Answer, Answers, Question, Records, ALL_TYPES};
+pub use question::{Question, ALL_TYPES};
+pub use records::Records;
 pub use refusal::{AskRefusal, Fault, Refusal};
+pub use reply::{Answer, Outcome, Reply, Told};
 
 /// The program of README.md, run as a test.
 #[cfg(doctest)]

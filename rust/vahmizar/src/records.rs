@@ -1,14 +1,13 @@
 //! Asking compiled records.
 
-use std::iter::FusedIterator;
 use std::net::IpAddr;
 
 use crate::moment::Moment;
+use crate::question::{Question, ALL_TYPES};
 use crate::refusal::AskRefusal;
+use crate::reply::{Answer, Outcome, Reply, Told};
 use crate::sys;
-
-/// The record type of a question for records of all types.
-pub const ALL_TYPES: u16 = 255;
+use crate::walk::Walk;
 
 /// The number of an answer that has no record at the ordinal.
 const NO_MORE: u64 = 18;
@@ -17,34 +16,6 @@ const NO_MORE: u64 = 18;
 #[derive(Clone, Copy, Debug)]
 pub struct Records<'a> {
     bytes: &'a [u8],
-}
-
-/// A question of a client.
-#[derive(Clone, Copy, Debug)]
-pub struct Question<'q> {
-    /// The name on the wire, as it stands in a packet without compression.
-    /// Letter case doesn't count.
-    pub name: &'q [u8],
-    /// The record type; [`ALL_TYPES`] for all.
-    pub record_type: u16,
-    /// The client's address, which decides its location. An IPv4 address
-    /// mapped to IPv6 counts as IPv6; turn it back first.
-    pub client: IpAddr,
-    /// When the question is asked.
-    pub moment: Moment,
-}
-
-/// One record of the answer to a question.
-#[derive(Clone, Copy, Debug, PartialEq, Eq)]
-pub struct Answer<'a> {
-    /// The record type.
-    pub record_type: u16,
-    /// For how many seconds the record may be kept.
-    pub lifetime: u32,
-    /// Where the record data begin in the compiled bytes, from 0.
-    pub place: usize,
-    /// The record data.
-    pub data: &'a [u8],
 }
 
 impl<'a> Records<'a> {
@@ -68,39 +39,100 @@ impl<'a> Records<'a> {
     /// assert_eq!(Records::new(b"data").check(), Err(AskRefusal::Records));
     /// ```
     pub fn check(&self) -> Result<(), AskRefusal> {
-        let question = Question {
-            name: b"\0",
-            record_type: ALL_TYPES,
-            client: [0, 0, 0, 0].into(),
-            moment: Moment::from_tai64(0),
-        };
-        self.ask(&question, 0).map(drop)
+        let question = Question::new(b"\0", ALL_TYPES, [0; 4], Moment::from_tai64(0));
+        self.ask_nth(&question, 0).map(drop)
     }
 
-    /// The record at an ordinal, from 0, of the answer to a question; `None`
-    /// where the answer has no more.
+    /// Where the bytes stop being whole records: the start of the first one
+    /// that isn't, or their length if all are.
     ///
     /// ```
-    /// use vahmizar::{compile_to_vec, Moment, Question, Records};
+    /// use vahmizar::{compile_to_vec, Records};
     ///
-    /// let bytes = compile_to_vec(b"@b:192.0.2.1:a:10", 1)?;
-    /// let question = Question {
-    ///     name: b"\x01b\x00",
-    ///     record_type: 15,
-    ///     client: [192, 0, 2, 9].into(),
-    ///     moment: Moment::now(),
+    /// let bytes = compile_to_vec(b"+a.b:192.0.2.1\n+a.b:192.0.2.2", 1)?;
+    /// assert_eq!(Records::new(&bytes).valid_up_to(), 64);
+    /// assert_eq!(Records::new(&bytes[..63]).valid_up_to(), 32);
+    /// # Ok::<(), vahmizar::Refusal>(())
+    /// ```
+    pub fn valid_up_to(&self) -> usize {
+        Walk::new(self.bytes)
+            .map(|record| record.whole)
+            .take_while(|record| Records::new(record).check().is_ok())
+            .map(<[u8]>::len)
+            .sum()
+    }
+
+    /// The reply to a question.
+    ///
+    /// A reply of n records takes n + 1 calls of the library, each of which
+    /// judges the whole bytes anew.
+    ///
+    /// ```
+    /// use vahmizar::{compile_to_vec, Moment, Question, Records, Reply};
+    ///
+    /// let source = b".b:192.0.2.1:a\n@b:192.0.2.2:m:10\n&c.b:192.0.2.3:d\n";
+    /// let bytes = compile_to_vec(source, 1)?;
+    /// let records = Records::new(&bytes);
+    /// let ask = |name, record_type| {
+    ///     let client = [192, 0, 2, 9];
+    ///     records.ask(&Question::new(name, record_type, client, Moment::now()))
     /// };
-    /// let answer = Records::new(&bytes).ask(&question, 0)?.unwrap();
-    /// assert_eq!(answer.data, b"\x00\x0a\x01a\x02mx\x01b\x00");
-    /// assert_eq!(answer.lifetime, 86400);
-    /// assert_eq!(Records::new(&bytes).ask(&question, 1)?, None);
+    ///
+    /// let Reply::Records(mail) = ask(b"\x01b\x00", 15)? else {
+    ///     panic!("b has an MX record");
+    /// };
+    /// assert_eq!(mail[0].data, b"\x00\x0a\x01m\x02mx\x01b\x00");
+    /// assert_eq!(mail[0].lifetime, 86400);
+    ///
+    /// let Reply::Referral { zone, servers, .. } = ask(b"\x01x\x01c\x01b\x00", 1)? else {
+    ///     panic!("c.b is handed on");
+    /// };
+    /// assert_eq!(zone, b"\x01c\x01b\x00");
+    /// assert_eq!(servers[0].data, b"\x01d\x02ns\x01c\x01b\x00");
+    ///
+    /// assert_eq!(ask(b"\x01b\x00", 16)?, Reply::NoSuchType);
+    /// assert_eq!(ask(b"\x01x\x01b\x00", 1)?, Reply::NoSuchName);
+    /// assert_eq!(ask(b"\x01z\x00", 1)?, Reply::NotOurs);
     /// # Ok::<(), Box<dyn std::error::Error>>(())
     /// ```
-    pub fn ask(
-        &self,
-        question: &Question<'_>,
-        ordinal: u64,
-    ) -> Result<Option<Answer<'a>>, AskRefusal> {
+    pub fn ask(&self, question: &Question<'_>) -> Result<Reply<'a>, AskRefusal> {
+        let mut answers = Vec::new();
+        let outcome = loop {
+            let told = self.ask_nth(question, answers.len() as u64)?;
+            match told.answer {
+                Some(answer) => answers.push(answer),
+                None => break told.outcome,
+            }
+        };
+        Ok(match outcome {
+            Outcome::NotOurs => Reply::NotOurs,
+            Outcome::Referral => Reply::Referral {
+                zone: answers.first().map_or(&[], |first| self.key_of(first)),
+                servers: answers,
+            },
+            Outcome::Records => Reply::Records(answers),
+            Outcome::NoSuchType => Reply::NoSuchType,
+            Outcome::NoSuchName => Reply::NoSuchName,
+        })
+    }
+
+    /// One call of the library: the outcome of a question, and the record at
+    /// an ordinal, from 0, of its reply.
+    ///
+    /// ```
+    /// use vahmizar::{compile_to_vec, Moment, Outcome, Question, Records};
+    ///
+    /// let bytes = compile_to_vec(b".b\n+a.b:192.0.2.1", 1)?;
+    /// let records = Records::new(&bytes);
+    /// let question = Question::new(b"\x01a\x01b\x00", 1, [192, 0, 2, 9], Moment::now());
+    /// let first = records.ask_nth(&question, 0)?;
+    /// assert_eq!(first.outcome, Outcome::Records);
+    /// assert_eq!(first.answer.map(|answer| answer.data), Some(&[192, 0, 2, 1][..]));
+    /// let second = records.ask_nth(&question, 1)?;
+    /// assert_eq!((second.outcome, second.answer), (Outcome::Records, None));
+    /// # Ok::<(), Box<dyn std::error::Error>>(())
+    /// ```
+    pub fn ask_nth(&self, question: &Question<'_>, ordinal: u64) -> Result<Told<'a>, AskRefusal> {
         let mut answer = [0; sys::ASK_ANSWER];
         let ask = |client: &[u8], answer: &mut [u8]| {
             sys::ask(
@@ -117,13 +149,16 @@ impl<'a> Records<'a> {
             IpAddr::V4(address) => ask(&address.octets(), &mut answer),
             IpAddr::V6(address) => ask(&address.octets(), &mut answer),
         };
-        match number {
-            0 => Ok(Some(self.answer(&answer))),
-            NO_MORE => Ok(None),
-            _ => match AskRefusal::from_number(number) {
-                Some(refusal) => Err(refusal),
-                None => panic!("asking answered {number}, which its promise excludes"),
-            },
+        if let Some(refusal) = AskRefusal::from_number(number) {
+            return Err(refusal);
+        }
+        let outcome = sys::answer_number(&answer, 5);
+        match (number, Outcome::from_number(outcome)) {
+            (0 | NO_MORE, Some(outcome)) => Ok(Told {
+                outcome,
+                answer: (number == 0).then(|| self.answer(&answer)),
+            }),
+            _ => panic!("asking answered {number} and {outcome}, which its promise excludes"),
         }
     }
 
@@ -139,98 +174,7 @@ impl<'a> Records<'a> {
             data: &self.bytes[place..][..number(4) as usize],
         }
     }
-
-    /// All records of the answer to a question, in line order.
-    ///
-    /// A refusal comes once, as the only item. Each step is a call of its own,
-    /// which judges the whole bytes anew: an answer of n records takes n + 1
-    /// times as long as one call.
-    pub fn answers<'q>(&self, question: Question<'q>) -> Answers<'a, 'q> {
-        Answers {
-            records: *self,
-            question,
-            ordinal: 0,
-            ended: false,
-        }
-    }
 }
-
-/// The records of an answer, one after another; see [`Records::answers`].
-#[derive(Clone, Debug)]
-pub struct Answers<'a, 'q> {
-    records: Records<'a>,
-    question: Question<'q>,
-    ordinal: u64,
-    ended: bool,
-}
-
-impl<'a> Iterator for Answers<'a, '_> {
-    type Item = Result<Answer<'a>, AskRefusal>;
-
-    fn next(&mut self) -> Option<Self::Item> {
-        if self.ended {
-            return None;
-        }
-        let answer = self.records.ask(&self.question, self.ordinal).transpose();
-        self.ordinal += 1;
-        self.ended = !matches!(answer, Some(Ok(_)));
-        answer
-    }
-}
-
-impl FusedIterator for Answers<'_, '_> {}
 
 #[cfg(test)]
-mod tests {
-    use super::*;
-    use crate::compile_to_vec;
-
-    fn question(name: &[u8]) -> Question<'_> {
-        Question {
-            name,
-            record_type: ALL_TYPES,
-            client: [10, 0, 0, 1].into(),
-            moment: Moment::from_unix(1_700_000_000),
-        }
-    }
-
-    #[test]
-    fn answers_come_in_line_order() {
-        let bytes = compile_to_vec(b".b:192.0.2.1:a\n'b:x\n%lo:10\n'b:y:::lo", 7).unwrap();
-        let records = Records::new(&bytes);
-        let answers: Result<Vec<_>, _> = records.answers(question(b"\x01B\x00")).collect();
-        let types: Vec<_> = answers.unwrap().iter().map(|a| a.record_type).collect();
-        assert_eq!(types, [6, 2, 16, 16]);
-        assert_eq!(records.answers(question(b"\x01c\x00")).count(), 0);
-    }
-
-    #[test]
-    fn an_ipv6_client_is_at_the_empty_prefix() {
-        let bytes = compile_to_vec(b"%aa:10\n%bb\n'b:x:::aa\n'b:yy:::bb", 7).unwrap();
-        let ask = |client: IpAddr| {
-            let question = Question {
-                client,
-                ..question(b"\x01b\x00")
-            };
-            let answer = Records::new(&bytes).ask(&question, 0).unwrap().unwrap();
-            answer.data.len()
-        };
-        assert_eq!(ask([10, 9, 9, 9].into()), 2);
-        assert_eq!(ask([0x0a00; 8].into()), 3);
-    }
-
-    #[test]
-    fn refusals_come_once() {
-        let mut answers = Records::new(b"x").answers(question(b"\x00"));
-        assert_eq!(answers.next(), Some(Err(AskRefusal::Records)));
-        assert_eq!(answers.next(), None);
-        let late = Question {
-            moment: Moment::from_tai64(1 << 63),
-            ..question(b"\x00")
-        };
-        let refusal = Records::new(b"").ask(&late, 0);
-        assert_eq!(refusal, Err(AskRefusal::Moment));
-        let refusal = Records::new(b"").ask(&question(b""), 0);
-        assert_eq!(refusal, Err(AskRefusal::Name));
-    }
-}
+mod tests;

@@ -5,6 +5,7 @@ use std::fmt;
 
 /// Why a source wasn't compiled.
 #[derive(Clone, Copy, Debug, PartialEq, Eq, Hash)]
+#[non_exhaustive]
 #[repr(u64)]
 pub enum Fault {
     /// More than 1,048,576 bytes.
@@ -85,6 +86,7 @@ impl Fault {
 
 /// A source that wasn't compiled, and where it is at fault.
 #[derive(Clone, Copy, Debug, PartialEq, Eq, Hash)]
+#[non_exhaustive]
 pub struct Refusal {
     /// What is wrong.
     pub fault: Fault,
@@ -115,6 +117,7 @@ impl Error for Refusal {}
 
 /// Why a question wasn't answered.
 #[derive(Clone, Copy, Debug, PartialEq, Eq, Hash)]
+#[non_exhaustive]
 #[repr(u64)]
 pub enum AskRefusal {
     /// The bytes aren't whole records as compiling writes them.

@@ -8,8 +8,11 @@
 /// Bytes of the answer of [`compile`]: number, line, field, bytes, each as
 /// 8 bytes, little-endian.
 pub const COMPILE_ANSWER: usize = 32;
-/// Bytes of the answer of [`ask`]: number, type, lifetime, place, length.
-pub const ASK_ANSWER: usize = 40;
+/// Bytes of the answer of [`ask`]: number, type, lifetime, place, length,
+/// outcome. The outcome is the question's, 1 to 5 in the order of
+/// [`Outcome`](crate::Outcome), the same at every ordinal, also where the
+/// answer has no more (18); 0 on a refusal.
+pub const ASK_ANSWER: usize = 48;
 
 extern "C" {
     fn tinydns_compile(

@@ -71,8 +71,14 @@ impl Folder {
 
     /// Runs the command, which must succeed, and returns what it prints.
     pub fn good(&self, words: &[&str]) -> String {
+        self.says(words, 0)
+    }
+
+    /// Runs the command, which must end so without a message, and returns what
+    /// it prints.
+    pub fn says(&self, words: &[&str], status: i32) -> String {
         let run = self.run(words);
-        assert_eq!((run.status, &run.err[..]), (0, ""), "{words:?}");
+        assert_eq!((run.status, &run.err[..]), (status, ""), "{words:?}");
         run.out
     }
 
