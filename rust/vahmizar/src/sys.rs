@@ -8,8 +8,9 @@
 /// Bytes of the answer of [`compile`]: number, line, field, bytes, each as
 /// 8 bytes, little-endian.
 pub const COMPILE_ANSWER: usize = 32;
-/// Bytes of the answer of [`ask`]: number, type, lifetime, place, length.
-pub const ASK_ANSWER: usize = 40;
+/// Bytes of the answer of [`ask`]: number, type, lifetime, place, length,
+/// outcome.
+pub const ASK_ANSWER: usize = 48;
 
 extern "C" {
     fn tinydns_compile(
