@@ -60,6 +60,10 @@ fn main() -> ExitCode {
     }
     println!("{tally}");
     println!("compare: {count} cases, {differences} differences");
+    if options.only.is_none() && !tally.has_every_outcome() {
+        println!("compare: an outcome never occurred");
+        return ExitCode::FAILURE;
+    }
     if differences > 0 {
         return ExitCode::FAILURE;
     }
