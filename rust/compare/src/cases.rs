@@ -40,7 +40,7 @@ pub fn run(reading: &Reading, seed: u64, case: u64, tally: &mut Tally) -> Checke
         13..=15 => stream(reading, &hostile::stream(random), random, tally),
         16..=20 => {
             let family = Family::written(random);
-            let zones = zones::source(&family, random);
+            let zones = zones::source(&family, &zones::TIMES, random);
             source_asked(reading, &zones, random, tally, |_, random| {
                 family.question(random)
             })

@@ -120,8 +120,11 @@ fn wire(labels: &[Vec<u8>]) -> Vec<u8> {
     wire
 }
 
-/// A good source about the names of a family.
-pub fn source(family: &Family, random: &mut Random) -> Vec<u8> {
+/// Times of lines around [`NOON`].
+pub const TIMES: [u64; 4] = [NOON, NOON + 1, NOON + 2, NOON + 3];
+
+/// A good source about the names of a family, with these times.
+pub fn source(family: &Family, times: &[u64], random: &mut Random) -> Vec<u8> {
     let mut source = random.pick(&[".\n", ".b\n", ".b\n.s.b\n", ""]).to_owned();
     for _ in 0..random.within(1, 12) {
         let labels = family.name(random);
@@ -131,7 +134,7 @@ pub fn source(family: &Family, random: &mut Random) -> Vec<u8> {
             name = format!("*.{name}");
         }
         let contact = length < LONGEST_WITH_CONTACT;
-        let end = ending(random);
+        let end = ending(times, random);
         let number = random.below(256);
         source += &match random.below(16) {
             0..=2 if contact => format!(".{name}::n{number}.x:{end}\n"),
@@ -153,10 +156,10 @@ pub fn source(family: &Family, random: &mut Random) -> Vec<u8> {
 }
 
 /// The last three fields: seldom a time or a location.
-fn ending(random: &mut Random) -> String {
+fn ending(times: &[u64], random: &mut Random) -> String {
     let ttl = random.pick(&["", "", "0", "5"]);
     let time = match random.once_in(5) {
-        true => format!("{:016x}", NOON + random.below(4) as u64),
+        true => format!("{:016x}", random.pick(times)),
         false => String::new(),
     };
     let lo = random.pick(&["", "", "", "", "in", "ex"]);
@@ -187,7 +190,7 @@ pub fn stream(family: &Family, random: &mut Random) -> Vec<u8> {
             (true, false) => b'+',
         };
         let time = match random.once_in(5) {
-            true => NOON + random.below(4) as u64,
+            true => random.pick(&TIMES),
             false => 0,
         };
         let mut data = random
