@@ -21,4 +21,5 @@ pub mod random;
 pub mod reading;
 pub mod sources;
 pub mod tally;
+pub mod worked;
 pub mod zones;

@@ -5,7 +5,7 @@ use std::process::ExitCode;
 
 use compare::reading::REFERENCE;
 use compare::tally::Tally;
-use compare::{cases, edges};
+use compare::{cases, edges, worked};
 
 const USAGE: &str = "\
 compare [--cases N] [--seed N] [--only N] [--trace]
@@ -40,6 +40,13 @@ fn main() -> ExitCode {
         Ok(count) => println!("edges: {count} fixed sources answer as the rules say"),
         Err(difference) => {
             println!("difference at a fixed source\n{difference}");
+            differences += 1;
+        }
+    }
+    match worked::run(&REFERENCE, &mut tally) {
+        Ok(count) => println!("examples: {count} fixed questions are answered as the rules say"),
+        Err(difference) => {
+            println!("difference at a fixed question\n{difference}");
             differences += 1;
         }
     }

@@ -122,9 +122,9 @@ fn said(program: &OsStr, folder: &Path, asked: &Asked) -> Said {
 /// What the library says, in the same words.
 fn ours(told: &Told, records: &[u8]) -> Said {
     let of_type = |wanted| told.list.iter().filter(move |numbers| numbers[1] == wanted);
-    let addresses = of_type(1).map(|numbers| numbers[2]);
+    let mut addresses = of_type(1).map(|numbers| numbers[2]);
     assert!(addresses.clone().count() <= 8);
-    let lifetime = addresses.last();
+    let lifetime = addresses.next_back();
     let authority = of_type(6).next();
     let mut said = Vec::new();
     for numbers in &told.list {
