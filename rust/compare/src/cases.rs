@@ -1,12 +1,12 @@
 //! One case: an input made from seed and number, and all that is compared on it.
 
 use crate::difference::{literal, Checked, Difference};
+use crate::family::Family;
 use crate::lines::Mood;
 use crate::random::Random;
 use crate::reading::{Asked, Reading};
 use crate::tally::Tally;
-use crate::zones::{self, Family};
-use crate::{asking, compiling, hostile, meaning, questions, sources};
+use crate::{asking, compiling, hostile, meaning, questions, sources, zones};
 
 /// Questions put to each source or stream.
 const QUESTIONS: usize = 4;

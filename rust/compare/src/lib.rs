@@ -10,6 +10,7 @@ pub mod cases;
 pub mod compiling;
 pub mod difference;
 pub mod edges;
+pub mod family;
 pub mod fields;
 pub mod guarded;
 pub mod hostile;

@@ -16,10 +16,11 @@ use std::process::Command;
 use std::time::SystemTime;
 
 use compare::asking::{self, Told};
+use compare::family::Family;
 use compare::random::Random;
 use compare::reading::{Asked, REFERENCE};
 use compare::tally::Tally;
-use compare::zones::{self, Family};
+use compare::zones;
 use support::SERIAL;
 
 const SOURCES: u64 = 250;
@@ -55,8 +56,9 @@ fn outcomes_are_those_of_tinydns_get() {
             let told = asking::check(&REFERENCE, &records, &asked, random, &mut Tally::default());
             let told = told.unwrap_or_else(|difference| panic!("{difference}"));
             outcomes[told.outcome as usize] += 1;
-            // Names too long are refused by both, but not as questions.
-            if told.outcome > 0 {
+            // Neither takes a name that is too long.
+            let addresses = told.list.iter().filter(|numbers| numbers[1] == 1);
+            if told.outcome > 0 && addresses.count() <= 8 {
                 let theirs = said(&get, &folder, &asked);
                 let words = format!("{}\n{asked:?}", String::from_utf8_lossy(&source));
                 assert_eq!(ours(&told, &records), theirs, "{words}");
@@ -123,7 +125,6 @@ fn said(program: &OsStr, folder: &Path, asked: &Asked) -> Said {
 fn ours(told: &Told, records: &[u8]) -> Said {
     let of_type = |wanted| told.list.iter().filter(move |numbers| numbers[1] == wanted);
     let mut addresses = of_type(1).map(|numbers| numbers[2]);
-    assert!(addresses.clone().count() <= 8);
     let lifetime = addresses.next_back();
     let authority = of_type(6).next();
     let mut said = Vec::new();
