@@ -5,8 +5,8 @@ use crate::fields::NOON;
 use crate::hostile;
 use crate::random::Random;
 
-/// Longest name, on the wire, that a hostmaster still fits in front of.
-const LONGEST_WITH_CONTACT: usize = 244;
+/// Longest name, on the wire, that a hostmaster and a star fit in front of.
+const LONGEST_WITH_CONTACT: usize = 242;
 /// Longest key of a wildcard.
 const LONGEST_WILDCARD: usize = 253;
 
@@ -23,7 +23,7 @@ pub fn source(family: &Family, times: &[u64], random: &mut Random) -> Vec<u8> {
         if length <= LONGEST_WILDCARD && random.once_in(6) {
             name = format!("*.{name}");
         }
-        let contact = length < LONGEST_WITH_CONTACT;
+        let contact = length <= LONGEST_WITH_CONTACT;
         let end = ending(times, random);
         let number = random.below(256);
         source += &match random.below(16) {
@@ -104,4 +104,32 @@ pub fn stream(family: &Family, random: &mut Random) -> Vec<u8> {
         hostile::push(&mut bytes, &key, &data, random);
     }
     bytes
+}
+
+#[cfg(test)]
+mod tests {
+    use super::*;
+
+    #[test]
+    fn sources_are_good() {
+        for case in 0..2_000 {
+            let random = &mut Random::of_case(5, case);
+            let family = Family::written(random);
+            let source = source(&family, &TIMES, random);
+            assert!(reference::records(&source, 1).is_ok(), "{source:?}");
+        }
+    }
+
+    #[test]
+    fn most_streams_are_good() {
+        let mut good = 0;
+        for case in 0..1_000 {
+            let random = &mut Random::of_case(6, case);
+            let family = Family::of_any_bytes(random);
+            let stream = stream(&family, random);
+            let mut records = reference::stream::Stream::new(&stream);
+            good += usize::from(records.all(|record| record.is_ok()));
+        }
+        assert!(good > 700, "{good}");
+    }
 }

@@ -7,7 +7,8 @@ use reference::record::{Record, Resource};
 use reference::Question;
 use support::*;
 
-const LINES: [&str; 11] = [
+/// The client is at no location, so what has one is hidden.
+const LINES: [&str; 12] = [
     ".b",
     "&b::x.y",
     "Zb:m:r",
@@ -19,6 +20,7 @@ const LINES: [&str; 11] = [
     "+h.s.b:192.0.2.3",
     "'*.s.b:x",
     "&::x.y",
+    "&h.s.b::x.y:::in",
 ];
 const NAMES: [&str; 7] = ["", "b", "c", "s.b", "q.b", "h.s.b", "q.h.s.b"];
 const TYPES: [u16; 5] = [1, 2, 6, 16, 255];
@@ -67,8 +69,11 @@ fn hold(records: &[Record], question: &Question<'_>, outcome: u64, list: &[Given
     match outcome {
         3 => {
             let (_, climbed) = climbed.expect("a list");
-            let data: Vec<_> = list.iter().map(|given| &given.data).collect();
-            assert_eq!(data, climbed);
+            let list: Vec<_> = list
+                .iter()
+                .map(|given| (given.record_type, &given.data))
+                .collect();
+            assert_eq!(list, climbed);
         }
         4 | 5 => {
             let above = climbed.is_none_or(|(owner, list)| {
@@ -80,10 +85,11 @@ fn hold(records: &[Record], question: &Question<'_>, outcome: u64, list: &[Given
     }
 }
 
+/// What the client sees.
 fn resources(records: &[Record]) -> impl Iterator<Item = &Resource> {
     records.iter().filter_map(|record| match record {
-        Record::Resource(resource) => Some(resource),
-        Record::Location { .. } => None,
+        Record::Resource(resource) if resource.lo.is_none() => Some(resource),
+        _ => None,
     })
 }
 
@@ -109,11 +115,11 @@ fn control<'a>(records: &[Record], name: &'a [u8]) -> &'a [u8] {
         .expect("a control name")
 }
 
-/// The level that a climb up to the root finds, and its data of the type.
-fn climb<'a>(
-    records: &'a [Record],
-    question: &Question<'a>,
-) -> Option<(&'a [u8], Vec<&'a Vec<u8>>)> {
+/// Types and data of records.
+type Listed<'a> = Vec<(u16, &'a Vec<u8>)>;
+
+/// The level that a climb up to the root finds, and its records of the type.
+fn climb<'a>(records: &'a [Record], question: &Question<'a>) -> Option<(&'a [u8], Listed<'a>)> {
     for owner in chain(question.name) {
         let level: Vec<_> = resources(records)
             .filter(|record| match owner == question.name {
@@ -124,7 +130,8 @@ fn climb<'a>(
         if !level.is_empty() {
             let level = level.into_iter();
             let list = level.filter(|record| question.takes(record.record_type));
-            return Some((owner, list.map(|record| &record.data).collect()));
+            let list = list.map(|record| (record.record_type, &record.data));
+            return Some((owner, list.collect()));
         }
     }
     None
