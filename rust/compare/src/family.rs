@@ -30,8 +30,12 @@ impl Family {
             1 => Family::alike(b"b".to_vec(), b"z\x01"),
             2 => Family::alike(b"\0".to_vec(), b"\x01"),
             3 => Family::alike(b"*".to_vec(), b"\x01"),
-            4 => Family::twins(random, |byte| byte ^ 0x20),
-            5 => Family::twins(random, |byte| byte ^ 0x80),
+            4 => Family::twins(random, |byte| byte ^ 0x80),
+            5 => Family::twins(random, |byte| match byte {
+                // They differ as an upper case letter does from a lower case one.
+                b'[' => b'{',
+                _ => byte ^ 1,
+            }),
             _ => Family::near(),
         }
     }

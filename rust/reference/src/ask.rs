@@ -109,8 +109,9 @@ pub fn ask(records: &[u8], question: &Question<'_>, ordinal: u64) -> AskAnswer {
     pick(list, ordinal, outcome)
 }
 
-fn pick<'a>(mut list: impl Iterator<Item = Near<'a>>, ordinal: u64, outcome: Outcome) -> AskAnswer {
-    let place = usize::try_from(ordinal).ok();
+/// The answer with the record at an ordinal of a list.
+fn pick<'a>(mut list: impl Iterator<Item = Near<'a>>, at: u64, outcome: Outcome) -> AskAnswer {
+    let place = usize::try_from(at).ok();
     match place.and_then(|place| list.nth(place)) {
         Some(near) => AskAnswer::record(&near, outcome),
         None => AskAnswer::no_more(outcome),
