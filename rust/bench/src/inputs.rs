@@ -1,6 +1,7 @@
 //! What is compiled and asked.
 
 use std::fmt::Write;
+use std::iter;
 
 use vahmizar::{compile_to_vec, LONGEST_SOURCE};
 
@@ -36,50 +37,67 @@ pub fn source() -> String {
     source
 }
 
-/// What a file begins with: a location, a zone's own records and a wildcard.
-const FIRST: &str = "%in:10\n.example:10.9.0.1:a\n+*.dyn.example:10.7.0.1\n";
-
+/// What a file begins with: a location, a zone's own records, a delegation, a
+/// wildcard, and a zone for names of many labels.
+const FIRST: [&str; 5] = [
+    "%in:10",
+    ".example:10.9.0.1:a",
+    "&far.example:10.9.0.2:a",
+    "+*.dyn.example:10.7.0.1",
+    ".d::ns.d",
+];
 /// How many records that makes.
-const FIRST_COUNT: usize = 5;
+const FIRST_COUNT: usize = 9;
 
-/// Compiled bytes of so many records: those of [`FIRST`], then addresses, each
-/// with its own name.
+/// Compiled bytes of lines. A stream may be joined from several; one source
+/// couldn't hold them all.
+fn stream(lines: impl Iterator<Item = String>) -> Vec<u8> {
+    let lines: Vec<_> = lines.collect();
+    let sources = lines.chunks(1_000).map(|lines| lines.join("\n"));
+    let streams = sources.map(|source| compile_to_vec(source.as_bytes(), 1));
+    let streams = streams.map(|bytes| bytes.expect("a good source"));
+    streams.collect::<Vec<_>>().concat()
+}
+
+/// A stream of so many records: those of [`FIRST`], then hosts of 50 places.
 pub fn records(count: usize) -> Vec<u8> {
-    let mut bytes = compile_to_vec(FIRST.as_bytes(), 1).expect("a good source");
-    // A stream may be joined from several; one source couldn't hold it.
-    for first in (FIRST_COUNT..count).step_by(1_000) {
-        let mut source = String::new();
-        for number in first..count.min(first + 1_000) {
-            let zone = number % 50;
-            writeln!(source, "+host{number}.zone{zone}.example:10.1.2.3").expect("all");
-        }
-        bytes.extend(compile_to_vec(source.as_bytes(), 1).expect("a good source"));
+    let hosts = (FIRST_COUNT..count).map(|number| host(number, number % 50));
+    stream(FIRST.map(str::to_owned).into_iter().chain(hosts))
+}
+
+/// A zone of this number and so many hosts, its own records first or last.
+pub fn one_zone(number: usize, hosts: usize, first: bool) -> Vec<u8> {
+    let own = iter::once(zone(number));
+    let hosts = (0..hosts).map(|host_number| host(host_number, number));
+    match first {
+        true => stream(own.chain(hosts)),
+        false => stream(hosts.chain(own)),
     }
-    bytes
 }
 
-/// The name of a record of [`records`], on the wire.
-pub fn name(number: usize) -> Vec<u8> {
-    wire(&[
-        &format!("host{number}"),
-        &format!("zone{}", number % 50),
-        "example",
-    ])
+/// So many zones with so many hosts each, one zone behind another.
+pub fn zones(count: usize, hosts: usize) -> Vec<u8> {
+    let streams = (0..count).map(|number| one_zone(number, hosts, true));
+    streams.collect::<Vec<_>>().concat()
 }
 
-/// A name that the wildcard of [`records`] answers for.
-pub fn wildcard_name() -> Vec<u8> {
-    wire(&["some", "dyn", "example"])
+fn host(number: usize, zone: usize) -> String {
+    format!("+host{number}.zone{zone}.example:10.1.2.3")
 }
 
-/// A name that no record answers for, with some ancestors.
-pub fn unknown_name() -> Vec<u8> {
-    wire(&["some", "deep", "name", "nowhere", "zone7", "example"])
+fn zone(number: usize) -> String {
+    format!(".zone{number}.example::ns.example")
 }
 
-fn wire(labels: &[&str]) -> Vec<u8> {
+/// The name of a host, on the wire.
+pub fn name(number: usize, zone: usize) -> Vec<u8> {
+    wire(&format!("host{number}.zone{zone}.example"))
+}
+
+/// A name on the wire.
+pub fn wire(name: &str) -> Vec<u8> {
     let mut wire = Vec::new();
-    for label in labels {
+    for label in name.split('.') {
         wire.push(label.len() as u8);
         wire.extend_from_slice(label.as_bytes());
     }

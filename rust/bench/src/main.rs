@@ -11,6 +11,7 @@ fn main() {
     println!("Least times of many rounds; ratio: the library's time over the other's.");
     compiling::table();
     for records in [1_000, 10_000, 100_000] {
-        asking::table(records);
+        asking::tables(records);
     }
+    asking::shapes();
 }

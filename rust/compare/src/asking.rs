@@ -1,28 +1,37 @@
-//! Asking, compared: every ordinal, every number, and the lines themselves.
+//! Asking, compared: every ordinal, every byte of the answer, and what holds
+//! of all answers to a question together.
 
 use vahmizar::sys;
 
 use crate::difference::{literal, Checked, Difference};
 use crate::guarded::Guarded;
 use crate::random::Random;
-use crate::reading::{Asked, Meant, Reading};
+use crate::reading::{Asked, Reading};
 use crate::tally::Tally;
 
 /// Answer lengths that are all wrong for asking.
-const WRONG_LENGTHS: [usize; 9] = [0, 1, 8, 31, 32, 39, 41, 48, 80];
+const WRONG_LENGTHS: [usize; 13] = [0, 1, 8, 31, 32, 39, 40, 41, 47, 49, 56, 80, 96];
 
 /// The number of an answer without a record at the ordinal.
 const NO_MORE: u64 = 18;
 
+/// What asking told at all ordinals.
+pub struct Told {
+    /// The outcome, 0 for a refusal.
+    pub outcome: u64,
+    /// The answers that are records.
+    pub list: Vec<[u64; 6]>,
+}
+
 /// Compares the answers to a question at every ordinal up to past the last,
-/// and at some far ones. Returns the answers that are records.
+/// and at some far ones.
 pub fn check(
     reading: &Reading,
     records: &[u8],
     asked: &Asked,
     random: &mut Random,
     tally: &mut Tally,
-) -> Checked<Vec<[u64; 5]>> {
+) -> Checked<Told> {
     let lent = Guarded::holding(records, random);
     let mut call = Call {
         reading,
@@ -32,19 +41,21 @@ pub fn check(
         random,
         tally,
     };
-    let mut handed = Vec::new();
-    loop {
-        let numbers = call.ordinal(handed.len() as u64)?;
+    let mut list = Vec::new();
+    let last = loop {
+        let numbers = call.ordinal(list.len() as u64)?;
         if numbers[0] != 0 {
-            break;
+            break numbers;
         }
-        handed.push(numbers);
-    }
+        list.push(numbers);
+    };
     // A number of 32 bits would take these for small ones.
-    let far = 1 << 32 | call.random.below(handed.len() + 1) as u64;
-    let next = handed.len() as u64 + 1;
+    let far = 1 << 32 | call.random.below(list.len() + 1) as u64;
+    let next = list.len() as u64 + 1;
     for ordinal in [next, 1 << 32, far, u64::MAX] {
-        call.ordinal(ordinal)?;
+        if call.ordinal(ordinal)? != last {
+            return Err(call.differs(ordinal, "not as right behind the list"));
+        }
     }
     if call.random.once_in(8) {
         let length = call.random.pick(&WRONG_LENGTHS);
@@ -53,52 +64,10 @@ pub fn check(
     if lent.inner() != records {
         return Err(call.differs(0, "the records were written"));
     }
-    Ok(handed)
-}
-
-/// Holds the answers of asking against those that the lines give.
-pub fn check_meaning(
-    reading: &Reading,
-    records: &[u8],
-    asked: &Asked,
-    handed: &[[u64; 5]],
-    meant: &Meant,
-    tally: &mut Tally,
-) -> Checked {
-    tally.meant += 1;
-    let differs = |words: String| {
-        let asked = describe(asked);
-        Difference(format!(
-            "ask and the lines' meaning: {words}\n{asked}\n  compared with {}",
-            reading.name
-        ))
-    };
-    let Ok(given) = meant else {
-        return match handed {
-            [] => Ok(()),
-            _ => Err(differs("the question should be refused".to_owned())),
-        };
-    };
-    if given.len() != handed.len() {
-        let (wanted, found) = (given.len(), handed.len());
-        return Err(differs(format!("{wanted} records wanted, {found} given")));
-    }
-    for (ordinal, (given, numbers)) in given.iter().zip(handed).enumerate() {
-        let [_, record_type, lifetime, place, length] = *numbers;
-        let data = records
-            .get(place as usize..)
-            .and_then(|behind| behind.get(..length as usize));
-        let same = record_type == u64::from(given.record_type)
-            && lifetime == u64::from(given.lifetime)
-            && place + length == given.end
-            && data == Some(&given.data[..]);
-        if !same {
-            return Err(differs(format!(
-                "ordinal {ordinal}: {given:?} wanted, {numbers:?} given"
-            )));
-        }
-    }
-    Ok(())
+    let [_, _, _, _, _, outcome] = last;
+    call.tally.told(outcome);
+    call.laws(outcome, &list)?;
+    Ok(Told { outcome, list })
 }
 
 struct Call<'a> {
@@ -111,10 +80,41 @@ struct Call<'a> {
 }
 
 impl Call<'_> {
-    fn ordinal(&mut self, ordinal: u64) -> Checked<[u64; 5]> {
+    fn ordinal(&mut self, ordinal: u64) -> Checked<[u64; 6]> {
+        let (returned, answer) = self.both(ordinal, sys::ASK_ANSWER)?;
+        let numbers = numbers(&answer);
+        let [number, record_type, lifetime, place, length, outcome] = numbers;
+        if returned != number {
+            return Err(self.differs(ordinal, "the call returns another number"));
+        }
+        if number != 0 && (record_type, lifetime, place, length) != (0, 0, 0, 0) {
+            return Err(self.differs(ordinal, "numbers without a record"));
+        }
+        if place + length > self.records.len() as u64 {
+            return Err(self.differs(ordinal, "the data lie outside the records"));
+        }
+        match (number, outcome) {
+            (0, 2..=3) | (NO_MORE, 1..=5) | (14..=17, 0) => Ok(numbers),
+            _ => Err(self.differs(ordinal, "no such answer")),
+        }
+    }
+
+    fn wrong_answer(&mut self, length: usize) -> Checked {
+        match self.both(0, length)? {
+            (19, _) => Ok(()),
+            (returned, _) => {
+                let words = format!("19 wanted for {length} bytes, returned {returned}");
+                Err(self.differs(0, &words))
+            }
+        }
+    }
+
+    /// Calls the library with an answer slice of this length and compares all
+    /// that it leaves behind with the second implementation.
+    fn both(&mut self, ordinal: u64, length: usize) -> Checked<(u64, Vec<u8>)> {
         let name = Guarded::holding(&self.asked.name, self.random);
         let client = Guarded::holding(&self.asked.client, self.random);
-        let mut answer = Guarded::new(sys::ASK_ANSWER, self.random);
+        let mut answer = Guarded::new(length, self.random);
         let mut wanted_answer = answer.clone();
         let returned = sys::ask(
             self.lent.inner(),
@@ -126,55 +126,44 @@ impl Call<'_> {
             answer.inner_mut(),
         );
         self.tally.asked(returned);
-        let numbers = (self.reading.ask)(self.records, self.asked, ordinal);
-        let places = wanted_answer.inner_mut().chunks_exact_mut(8);
-        for (place, number) in places.zip(numbers) {
-            place.copy_from_slice(&number.to_le_bytes());
-        }
-        if answer != wanted_answer || returned != numbers[0] {
-            let found = [0, 1, 2, 3, 4].map(|place| sys::answer_number(answer.inner(), place));
-            return Err(self.differs(
-                ordinal,
-                &format!("answer should be {numbers:?}, is {found:?}, returned {returned}"),
-            ));
-        }
-        let [number, record_type, lifetime, place, length] = numbers;
-        if number != 0 && (record_type, lifetime, place, length) != (0, 0, 0, 0) {
-            return Err(self.differs(ordinal, "a refusal has other numbers"));
-        }
-        if place + length > self.records.len() as u64 {
-            return Err(self.differs(ordinal, "the data lie outside the records"));
+        let slice = wanted_answer.inner_mut();
+        let wanted = (self.reading.ask)(self.records, self.asked, ordinal, slice);
+        if returned != wanted || answer != wanted_answer {
+            let mut words = format!(
+                "returned {returned} with {}, wanted {wanted} with {}",
+                shown(&answer),
+                shown(&wanted_answer)
+            );
+            if answer.inner() == wanted_answer.inner() {
+                words += "; bytes beside the answer, or the number returned";
+            }
+            return Err(self.differs(ordinal, &words));
         }
         if name.inner() != self.asked.name || client.inner() != self.asked.client {
             return Err(self.differs(ordinal, "the question was written"));
         }
-        if !matches!(number, 0 | 14..=17 | NO_MORE) {
-            return Err(self.differs(ordinal, "no such answer"));
-        }
-        Ok(numbers)
+        Ok((returned, answer.inner().to_vec()))
     }
 
-    fn wrong_answer(&mut self, length: usize) -> Checked {
-        let name = Guarded::holding(&self.asked.name, self.random);
-        let client = Guarded::holding(&self.asked.client, self.random);
-        let before = Guarded::new(length, self.random);
-        let mut answer = before.clone();
-        let returned = sys::ask(
-            self.lent.inner(),
-            name.inner(),
-            self.asked.record_type,
-            client.inner(),
-            self.asked.moment,
-            0,
-            answer.inner_mut(),
-        );
-        self.tally.asked(returned);
-        let asked = name.inner() == self.asked.name && client.inner() == self.asked.client;
-        if returned == 19 && answer == before && asked {
-            return Ok(());
+    /// What holds of every outcome and its list, without a second opinion.
+    fn laws(&self, outcome: u64, list: &[[u64; 6]]) -> Checked {
+        if list.is_empty() == matches!(outcome, 2 | 3) {
+            return Err(self.differs(0, "list and outcome don't belong together"));
         }
-        let words = format!("an answer slice of {length} bytes: 19 wanted and nothing written");
-        Err(self.differs(0, &format!("{words}, returned {returned}")))
+        let wanted = match (outcome, self.asked.record_type) {
+            (2, _) => Some(2),
+            (_, 255) => None,
+            (_, asked) => Some(u64::from(asked)),
+        };
+        for (ordinal, numbers) in (0..).zip(list) {
+            if wanted.is_some_and(|wanted| wanted != numbers[1]) {
+                return Err(self.differs(ordinal, "a record of another type"));
+            }
+            if numbers[5] != outcome {
+                return Err(self.differs(ordinal, "another outcome than at the end"));
+            }
+        }
+        Ok(())
     }
 
     fn differs(&self, ordinal: u64, words: &str) -> Difference {
@@ -187,7 +176,19 @@ impl Call<'_> {
     }
 }
 
-fn describe(asked: &Asked) -> String {
+fn numbers(answer: &[u8]) -> [u64; 6] {
+    [0, 1, 2, 3, 4, 5].map(|place| sys::answer_number(answer, place))
+}
+
+fn shown(answer: &Guarded) -> String {
+    match answer.inner().len() {
+        sys::ASK_ANSWER => format!("{:?}", numbers(answer.inner())),
+        length => format!("{length} bytes"),
+    }
+}
+
+/// A question in words.
+pub fn describe(asked: &Asked) -> String {
     format!(
         "  name: {}, type: {}, client: {:?}, moment: {:#x}",
         literal(&asked.name),

@@ -1,11 +1,12 @@
 //! One case: an input made from seed and number, and all that is compared on it.
 
 use crate::difference::{literal, Checked, Difference};
+use crate::family::Family;
 use crate::lines::Mood;
 use crate::random::Random;
 use crate::reading::{Asked, Reading};
 use crate::tally::Tally;
-use crate::{asking, compiling, hostile, questions, sources};
+use crate::{asking, compiling, hostile, meaning, questions, sources, zones};
 
 /// Questions put to each source or stream.
 const QUESTIONS: usize = 4;
@@ -14,13 +15,11 @@ const QUESTIONS: usize = 4;
 pub fn run(reading: &Reading, seed: u64, case: u64, tally: &mut Tally) -> Checked {
     let mut random = Random::of_case(seed, case);
     let random = &mut random;
-    match case % 16 {
-        0..=2 => source(
-            reading,
-            &sources::of_lines(Mood::Good, random),
-            random,
-            tally,
-        ),
+    match case % 24 {
+        0..=2 => {
+            let good = sources::of_lines(Mood::Good, random);
+            source(reading, &good, random, tally)
+        }
         3..=5 => source(reading, &sources::crowded(random), random, tally),
         6..=7 => {
             let borderline = sources::of_lines(Mood::Borderline, random);
@@ -38,13 +37,40 @@ pub fn run(reading: &Reading, seed: u64, case: u64, tally: &mut Tally) -> Checke
             hostile::damage(&mut damaged, random);
             stream(reading, &damaged, random, tally)
         }
-        _ => stream(reading, &hostile::stream(random), random, tally),
+        13..=15 => stream(reading, &hostile::stream(random), random, tally),
+        16..=20 => {
+            let family = Family::written(random);
+            let zones = zones::source(&family, &zones::TIMES, random);
+            source_asked(reading, &zones, random, tally, |_, random| {
+                family.question(random)
+            })
+        }
+        _ => {
+            let family = Family::of_any_bytes(random);
+            let zones = zones::stream(&family, random);
+            for _ in 0..QUESTIONS {
+                let asked = family.question(random);
+                asking::check(reading, &zones, &asked, random, tally)?;
+            }
+            Ok(())
+        }
     }
 }
 
 /// Compares a source: compiling it, asking what it became, and the meaning
 /// of its lines.
 pub fn source(reading: &Reading, source: &[u8], random: &mut Random, tally: &mut Tally) -> Checked {
+    source_asked(reading, source, random, tally, questions::about)
+}
+
+/// Compares a source with questions of some making.
+fn source_asked(
+    reading: &Reading,
+    source: &[u8],
+    random: &mut Random,
+    tally: &mut Tally,
+    question: impl Fn(&[u8], &mut Random) -> Asked,
+) -> Checked {
     let serial = match random.below(4) {
         0 => 0,
         1 => u32::MAX,
@@ -53,18 +79,15 @@ pub fn source(reading: &Reading, source: &[u8], random: &mut Random, tally: &mut
     let Some(records) = compiling::check(reading, source, serial, random, tally)? else {
         return Ok(());
     };
-    let asked: Vec<Asked> = (0..QUESTIONS)
-        .map(|_| questions::about(&records, random))
-        .collect();
+    let asked: Vec<Asked> = (0..QUESTIONS).map(|_| question(&records, random)).collect();
     let meant = (reading.meaning)(source, serial, &asked);
     for (asked, meant) in asked.iter().zip(&meant) {
-        let handed = asking::check(reading, &records, asked, random, tally)?;
-        asking::check_meaning(reading, &records, asked, &handed, meant, tally).map_err(
-            |Difference(words)| {
-                let source = literal(source);
-                Difference(format!("{words}\n  source: {source}\n  serial: {serial}"))
-            },
-        )?;
+        let told = asking::check(reading, &records, asked, random, tally)?;
+        let held = meaning::check(reading, &records, asked, &told, meant, tally);
+        held.map_err(|Difference(words)| {
+            let source = literal(source);
+            Difference(format!("{words}\n  source: {source}\n  serial: {serial}"))
+        })?;
     }
     Ok(())
 }

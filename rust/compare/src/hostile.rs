@@ -14,6 +14,13 @@ pub fn stream(random: &mut Random) -> Vec<u8> {
         return random.bytes(length);
     }
     let mut bytes = Vec::new();
+    if random.once_in(2) {
+        // A zone of the root, so that most names are ours.
+        for record_type in [2, 6] {
+            let fixed = [0, record_type, b'=', 0, 0, 0, 5, 0, 0, 0, 0, 0, 0, 0, 0];
+            push(&mut bytes, b"\0", &fixed, random);
+        }
+    }
     for _ in 0..random.pick(&[0, 1, 2, 3, 5, 8, 12]) {
         let (key, data) = match random.below(5) {
             0 => (location_key(random), lo(random).to_vec()),
@@ -28,7 +35,8 @@ pub fn stream(random: &mut Random) -> Vec<u8> {
     bytes
 }
 
-fn push(bytes: &mut Vec<u8>, key: &[u8], data: &[u8], random: &mut Random) {
+/// Puts a record behind the others, seldom with lengths that do not fit.
+pub fn push(bytes: &mut Vec<u8>, key: &[u8], data: &[u8], random: &mut Random) {
     let mut key_length = key.len() as u32;
     let mut data_length = data.len() as u32;
     if random.once_in(SELDOM) {

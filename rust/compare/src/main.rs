@@ -5,7 +5,7 @@ use std::process::ExitCode;
 
 use compare::reading::REFERENCE;
 use compare::tally::Tally;
-use compare::{cases, edges};
+use compare::{cases, edges, worked};
 
 const USAGE: &str = "\
 compare [--cases N] [--seed N] [--only N] [--trace]
@@ -43,6 +43,13 @@ fn main() -> ExitCode {
             differences += 1;
         }
     }
+    match worked::run(&REFERENCE, &mut tally) {
+        Ok(count) => println!("examples: {count} fixed questions are answered as the rules say"),
+        Err(difference) => {
+            println!("difference at a fixed question\n{difference}");
+            differences += 1;
+        }
+    }
     let mut count = 0;
     for case in numbers {
         count += 1;
@@ -60,6 +67,10 @@ fn main() -> ExitCode {
     }
     println!("{tally}");
     println!("compare: {count} cases, {differences} differences");
+    if options.only.is_none() && !tally.has_every_outcome() {
+        println!("compare: an outcome never occurred");
+        return ExitCode::FAILURE;
+    }
     if differences > 0 {
         return ExitCode::FAILURE;
     }

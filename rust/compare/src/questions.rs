@@ -106,7 +106,8 @@ fn name(keys: &[&[u8]], random: &mut Random) -> Vec<u8> {
     name
 }
 
-fn client(random: &mut Random) -> Vec<u8> {
+/// A client, seldom with an address of no good length.
+pub fn client(random: &mut Random) -> Vec<u8> {
     let length = match random.below(60) {
         0 => random.pick(&[0, 1, 3, 5, 8, 15, 17, 32]),
         1..=9 => 16,
@@ -116,7 +117,8 @@ fn client(random: &mut Random) -> Vec<u8> {
     (0..length).map(|_| random.pick(&OCTETS)).collect()
 }
 
-fn moment(random: &mut Random) -> u64 {
+/// A moment, mostly around [`NOON`].
+pub fn moment(random: &mut Random) -> u64 {
     match random.below(60) {
         0 => random.pick(&[1 << 63, u64::MAX, (1 << 63) + 1]),
         1 => random.pick(&[0, 1, (1 << 63) - 1]),

@@ -26,8 +26,9 @@ pub struct Given {
     pub data: Vec<u8>,
 }
 
-/// The answer that the lines give to a question, or the refusal's number.
-pub type Meant = Result<Vec<Given>, u64>;
+/// The outcome's number and the records that the lines give to a question, or
+/// the refusal's number.
+pub type Meant = Result<(u64, Vec<Given>), u64>;
 
 /// A second implementation, or an edited copy of it.
 #[derive(Clone, Copy)]
@@ -36,8 +37,9 @@ pub struct Reading {
     pub name: &'static str,
     /// Compiles a source.
     pub compile: fn(&[u8], u32, &mut [u8]) -> [u64; 4],
-    /// Asks for the record at an ordinal.
-    pub ask: fn(&[u8], &Asked, u64) -> [u64; 5],
+    /// Asks for the record at an ordinal: lays the answer into the slice and
+    /// returns what the call must.
+    pub ask: fn(&[u8], &Asked, u64, &mut [u8]) -> u64,
     /// Answers questions from the lines of an accepted source.
     pub meaning: fn(&[u8], u32, &[Asked]) -> Vec<Meant>,
 }
@@ -49,14 +51,14 @@ macro_rules! reading {
         $crate::reading::Reading {
             name: $name,
             compile: |source, serial, out| $($module)::+::compile(source, serial, out).numbers(),
-            ask: |records, asked, ordinal| {
+            ask: |records, asked, ordinal, answer| {
                 let question = $($module)::+::Question {
                     name: &asked.name,
                     record_type: asked.record_type,
                     client: &asked.client,
                     moment: asked.moment,
                 };
-                $($module)::+::ask(records, &question, ordinal).numbers()
+                $($module)::+::ask(records, &question, ordinal).lay(answer)
             },
             meaning: |source, serial, asked| {
                 let records = $($module)::+::records(source, serial).expect("an accepted source");
@@ -67,14 +69,14 @@ macro_rules! reading {
                         client: &asked.client,
                         moment: asked.moment,
                     };
-                    let given = $($module)::+::meaning::answers(&records, &question)?;
-                    let given = given.into_iter().map(|given| $crate::reading::Given {
+                    let told = $($module)::+::meaning::told(&records, &question)?;
+                    let given = told.list.into_iter().map(|given| $crate::reading::Given {
                         record_type: given.record_type,
                         lifetime: given.lifetime,
                         end: given.end,
                         data: given.data,
                     });
-                    Ok(given.collect())
+                    Ok((told.outcome.number(), given.collect()))
                 };
                 asked.iter().map(meant).collect()
             },

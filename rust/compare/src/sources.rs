@@ -10,7 +10,11 @@ pub fn of_lines(mood: Mood, random: &mut Random) -> Vec<u8> {
         true => 300,
         false => random.pick(&[1, 2, 3, 4, 6, 9, 14]),
     };
-    let lines: Vec<_> = (0..count).map(|_| lines::any(mood, random)).collect();
+    let mut lines: Vec<_> = (0..count).map(|_| lines::any(mood, random)).collect();
+    if !random.once_in(3) {
+        // The root's zone makes most names ours.
+        lines.insert(random.below(2).min(lines.len()), b".".to_vec());
+    }
     let mut source = lines.join(&b'\n');
     if random.once_in(2) {
         source.push(b'\n');
@@ -21,7 +25,7 @@ pub fn of_lines(mood: Mood, random: &mut Random) -> Vec<u8> {
 /// A good source whose records crowd around few names, so that levels,
 /// locations and times decide between them.
 pub fn crowded(random: &mut Random) -> Vec<u8> {
-    let mut source = String::new();
+    let mut source = random.pick(&[".\n", ".b\n", ".b\n.\n", ""]).to_owned();
     for _ in 0..random.within(4, 20) {
         let name = random.pick(&["a.b", "A.B", "b", "*.b", "*.a.b", "*", "x.a.b", "*.*.b", ""]);
         let lo = random.pick(&["", "", "in", "ex", "a"]);
@@ -40,7 +44,8 @@ pub fn crowded(random: &mut Random) -> Vec<u8> {
             }
             2 => format!("'{name}:{number}:{ending}\n"),
             3 => format!("C{name}:{number}.c:{ending}\n"),
-            4 => format!("&{name}::{number}.d:{ending}\n"),
+            4 if random.once_in(2) => format!("&{name}::{number}.d:{ending}\n"),
+            4 => format!(".{name}::{number}.d:{ending}\n"),
             _ => format!("+{name}:1.2.3.{number}:{ending}\n"),
         };
     }

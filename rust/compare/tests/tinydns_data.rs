@@ -2,19 +2,17 @@
 //! what compiling gives. TINYDNS_DATA names the program; without it the test
 //! passes at once.
 
+mod support;
+
 use std::env;
-use std::ffi::OsString;
+use std::ffi::OsStr;
 use std::fs;
-use std::path::Path;
-use std::process::Command;
-use std::time::{Duration, UNIX_EPOCH};
 
 use compare::difference::{first_difference, literal};
 use compare::random::Random;
 use compare::sources;
+use support::SERIAL;
 
-/// The program takes the source's modification time as serial.
-const SERIAL: u32 = 1_234_567_890;
 /// The pairs of table positions and counts before the records.
 const HEAD: usize = 2_048;
 const SOURCES: u64 = 300;
@@ -43,7 +41,7 @@ fn records_are_those_of_tinydns_data() {
     println!("tinydns-data: {compared} sources have the same records");
 }
 
-fn same_records(program: &OsString, source: &[u8]) {
+fn same_records(program: &OsStr, source: &[u8]) {
     let theirs = record_part(program, source);
     let ours = vahmizar::compile_to_vec(source, SERIAL).expect("a good source");
     assert!(
@@ -58,22 +56,8 @@ fn same_records(program: &OsString, source: &[u8]) {
 }
 
 /// Runs the program on a source and cuts the records out of its database.
-fn record_part(program: &OsString, source: &[u8]) -> Vec<u8> {
-    let folder = Path::new(env!("CARGO_TARGET_TMPDIR")).join("tinydns_data");
-    fs::create_dir_all(&folder).expect("a folder");
-    let data = folder.join("data");
-    fs::write(&data, source).expect("a source");
-    let time = UNIX_EPOCH + Duration::from_secs(SERIAL.into());
-    let file = fs::File::options().write(true).open(&data);
-    file.and_then(|file| file.set_modified(time))
-        .expect("the serial as time");
-    let output = Command::new(program)
-        .current_dir(&folder)
-        .output()
-        .expect("TINYDNS_DATA starts");
-    let said = String::from_utf8_lossy(&output.stderr);
-    let shown = literal(source);
-    assert!(output.status.success(), "{said}\n  source: {shown}");
+fn record_part(program: &OsStr, source: &[u8]) -> Vec<u8> {
+    let folder = support::database(program, "tinydns_data", source);
     let database = fs::read(folder.join("data.cdb")).expect("data.cdb");
     // The first table stands right behind the records.
     let end = u32::from_le_bytes(database[..4].try_into().unwrap());

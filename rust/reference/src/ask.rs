@@ -1,10 +1,13 @@
 //! Asking: from record bytes and a question to one record of the answer.
 
-use crate::name::{lower, LONGEST_NAME};
-use crate::question::{lifetime, Question};
-use crate::record::types;
-use crate::stream::{Entry, Malformed, Stream};
-use crate::values::Lo;
+use std::iter;
+
+use crate::near::{Near, View};
+use crate::outcome::Outcome;
+use crate::question::Question;
+
+/// Bytes of an answer's slice: six numbers.
+const ANSWER_LENGTH: usize = 48;
 
 /// What asking answers.
 #[derive(Clone, Copy, Debug, Default, PartialEq, Eq)]
@@ -19,120 +22,131 @@ pub struct AskAnswer {
     pub place: u64,
     /// How many bytes they have.
     pub length: u64,
+    /// The outcome's number; 0 for a refusal.
+    pub outcome: u64,
 }
 
 impl AskAnswer {
-    fn only(number: u64) -> AskAnswer {
+    fn refused(number: u64) -> AskAnswer {
         AskAnswer {
             number,
             ..AskAnswer::default()
         }
     }
 
+    fn no_more(outcome: Outcome) -> AskAnswer {
+        AskAnswer {
+            number: 18,
+            outcome: outcome.number(),
+            ..AskAnswer::default()
+        }
+    }
+
+    fn record(near: &Near<'_>, outcome: Outcome) -> AskAnswer {
+        AskAnswer {
+            number: 0,
+            record_type: near.stored.record_type.into(),
+            lifetime: near.lifetime.into(),
+            place: near.stored.place as u64,
+            length: near.stored.length as u64,
+            outcome: outcome.number(),
+        }
+    }
+
     /// The numbers in the order in which a call lays them down.
-    pub fn numbers(&self) -> [u64; 5] {
+    pub fn numbers(&self) -> [u64; 6] {
         [
             self.number,
             self.record_type,
             self.lifetime,
             self.place,
             self.length,
+            self.outcome,
         ]
     }
+
+    /// Lays the numbers into a call's slice and returns what the call does:
+    /// 19, with nothing written, where the slice has a wrong length.
+    pub fn lay(&self, slice: &mut [u8]) -> u64 {
+        if slice.len() != ANSWER_LENGTH {
+            return 19;
+        }
+        for (place, number) in slice.chunks_exact_mut(8).zip(self.numbers()) {
+            place.copy_from_slice(&number.to_le_bytes());
+        }
+        self.number
+    }
 }
 
-/// Answers a question with the record at an ordinal. Two passes over the
-/// bytes: the first judges all of them and finds the client's location.
+/// Answers a question with the record at an ordinal.
 pub fn ask(records: &[u8], question: &Question<'_>, ordinal: u64) -> AskAnswer {
     if let Some(number) = question.refusal() {
-        return AskAnswer::only(number);
+        return AskAnswer::refused(number);
     }
-    let Ok(location) = location(records, question) else {
-        return AskAnswer::only(14);
+    let Ok(view) = View::new(records, question) else {
+        return AskAnswer::refused(14);
     };
-    let levels = Levels::new(question.name);
-    let mut best = usize::MAX;
-    let mut before = 0;
-    let mut found = None;
-    for entry in Stream::new(records).flatten() {
-        let Entry::Resource(stored) = entry else {
-            continue;
-        };
-        let Some(level) = levels.of(stored.key, stored.wildcard) else {
-            continue;
-        };
-        let sees = stored.lo.is_none() || stored.lo == location;
-        let Some(lifetime) = lifetime(stored.ttl, stored.time, question.moment) else {
-            continue;
-        };
-        if level > best || !sees {
-            continue;
-        }
-        if level < best {
-            // A nearer level makes all found before worthless.
-            best = level;
-            before = 0;
-            found = None;
-        }
-        if question.record_type != types::ALL && question.record_type != stored.record_type {
-            continue;
-        }
-        if before == ordinal {
-            found = Some(AskAnswer {
-                number: 0,
-                record_type: stored.record_type.into(),
-                lifetime: lifetime.into(),
-                place: stored.place as u64,
-                length: stored.length as u64,
-            });
-        }
-        before += 1;
+    let held = Held::by(&view);
+    let Some(control) = nearest(held.servers) else {
+        return pick(iter::empty(), ordinal, Outcome::NotOurs);
+    };
+    if held.authorities >> control & 1 == 0 {
+        let servers = view.near().filter(Near::is_server);
+        let servers = servers.filter(|near| near.depth == control);
+        return pick(servers, ordinal, Outcome::Referral);
     }
-    found.unwrap_or(AskAnswer::only(18))
+    let level = nearest(held.candidates).filter(|&level| level <= control);
+    let Some(level) = level else {
+        return pick(iter::empty(), ordinal, Outcome::Unknown);
+    };
+    let list = view.near().filter(Near::is_candidate);
+    let list = list.filter(|near| near.depth == level && question.takes(near.stored.record_type));
+    let mut list = list.peekable();
+    let outcome = match list.peek() {
+        Some(_) => Outcome::Records,
+        None => Outcome::OtherTypes,
+    };
+    pick(list, ordinal, outcome)
 }
 
-/// The location of the longest prefix that fits; of equal ones the first.
-fn location(records: &[u8], question: &Question<'_>) -> Result<Option<Lo>, Malformed> {
-    let mut best: Option<(usize, Lo)> = None;
-    for entry in Stream::new(records) {
-        if let Entry::Location { prefix, lo } = entry? {
-            if let Some(fit) = question.fit(prefix) {
-                if best.is_none_or(|(longest, _)| fit > longest) {
-                    best = Some((fit, lo));
-                }
+/// The answer with the record at an ordinal of a list.
+fn pick<'a>(mut list: impl Iterator<Item = Near<'a>>, at: u64, outcome: Outcome) -> AskAnswer {
+    let place = usize::try_from(at).ok();
+    match place.and_then(|place| list.nth(place)) {
+        Some(near) => AskAnswer::record(&near, outcome),
+        None => AskAnswer::no_more(outcome),
+    }
+}
+
+/// The depths that have such records, a bit each: a name and its ancestors
+/// are at most 128.
+#[derive(Default)]
+struct Held {
+    servers: u128,
+    authorities: u128,
+    candidates: u128,
+}
+
+impl Held {
+    fn by(view: &View<'_>) -> Held {
+        let mut held = Held::default();
+        for near in view.near() {
+            let depth = 1 << near.depth;
+            if near.is_server() {
+                held.servers |= depth;
+            }
+            if near.is_authority() {
+                held.authorities |= depth;
+            }
+            if near.is_candidate() {
+                held.candidates |= depth;
             }
         }
+        held
     }
-    Ok(best.map(|(_, lo)| lo))
 }
 
-/// Where the asked name and its ancestors stand, by the length of their wire
-/// form: ancestors go by labels, and each has a length of its own.
-struct Levels {
-    name: Vec<u8>,
-    by_length: [Option<u8>; LONGEST_NAME + 1],
-}
-
-impl Levels {
-    fn new(name: &[u8]) -> Levels {
-        let name: Vec<u8> = name.iter().copied().map(lower).collect();
-        let mut by_length = [None; LONGEST_NAME + 1];
-        let mut at = 0;
-        for level in 0.. {
-            by_length[name.len() - at] = Some(level);
-            if name[at] == 0 {
-                break;
-            }
-            at += 1 + usize::from(name[at]);
-        }
-        Levels { name, by_length }
-    }
-
-    /// 0 for the name's own ordinary records, n for wildcards of its n-th
-    /// ancestor, nothing for all others.
-    fn of(&self, key: &[u8], wildcard: bool) -> Option<usize> {
-        let level = self.by_length[key.len()]?;
-        let held = wildcard == (level > 0) && self.name.ends_with(key);
-        held.then_some(level.into())
-    }
+/// The least depth of some.
+fn nearest(depths: u128) -> Option<u32> {
+    (depths != 0).then(|| depths.trailing_zeros())
 }

@@ -4,7 +4,7 @@
 //!
 //! * [`compile()`] turns a source into record bytes;
 //! * [`ask()`] answers a question over record bytes;
-//! * [`meaning::answers`] answers it from the lines themselves, without bytes.
+//! * [`meaning::told`] answers it from the lines themselves, without bytes.
 
 pub mod ask;
 pub mod compile;
@@ -13,6 +13,8 @@ pub mod fields;
 pub mod line;
 pub mod meaning;
 pub mod name;
+pub mod near;
+pub mod outcome;
 pub mod question;
 pub mod record;
 pub mod source;
@@ -21,5 +23,6 @@ pub mod values;
 
 pub use ask::{ask, AskAnswer};
 pub use compile::{compile, CompileAnswer};
+pub use outcome::Outcome;
 pub use question::Question;
 pub use source::records;

@@ -2,9 +2,19 @@
 //! the lines give them. No record bytes are made or read here, so that a
 //! compiler and a reader that agree on something wrong are still found out.
 
+use crate::outcome::Outcome;
 use crate::question::{lifetime, Question};
 use crate::record::{types, Record, Resource};
 use crate::values::Lo;
+
+/// The outcome of a question and its records, in line order.
+#[derive(Clone, Debug, PartialEq, Eq)]
+pub struct Told {
+    /// The outcome.
+    pub outcome: Outcome,
+    /// The records.
+    pub list: Vec<Given>,
+}
 
 /// One record of an answer.
 #[derive(Clone, Debug, PartialEq, Eq)]
@@ -30,33 +40,89 @@ struct Visible<'a> {
     end: u64,
 }
 
-/// All records that answer the question, in line order, or the number of
-/// the question's refusal.
-pub fn answers(records: &[Record], question: &Question<'_>) -> Result<Vec<Given>, u64> {
+impl Visible<'_> {
+    fn is(&self, record_type: u16) -> bool {
+        self.resource.record_type == record_type
+    }
+}
+
+/// All records that one client sees at one moment.
+struct Sight<'a>(Vec<Visible<'a>>);
+
+/// What the lines say to a question, or the number of its refusal.
+pub fn told(records: &[Record], question: &Question<'_>) -> Result<Told, u64> {
     if let Some(number) = question.refusal() {
         return Err(number);
     }
-    let visible = visible(records, question);
-    for owner in owners(&labels(question.name)) {
-        let level = visible.iter().filter(|record| record.owner == owner);
-        // The first owner with any record decides, whatever their types.
-        if level.clone().next().is_some() {
-            return Ok(level.filter_map(|record| given(record, question)).collect());
-        }
+    let sight = Sight(visible(records, question));
+    let asked = labels(question.name);
+    let mut chain = (0..=asked.len()).map(|cut| &asked[cut..]);
+    let Some(control) = chain.find(|name| sight.has(name, types::NS)) else {
+        return Ok(Told::new(Outcome::NotOurs, Vec::new()));
+    };
+    if !sight.has(control, types::SOA) {
+        let mut servers = sight.ordinary(control);
+        servers.retain(|record| record.is(types::NS));
+        return Ok(Told::new(Outcome::Referral, servers));
     }
-    Ok(Vec::new())
+    let level = sight.level(&asked, asked.len() - control.len());
+    let mut list = level.clone();
+    list.retain(|record| question.record_type == types::ALL || record.is(question.record_type));
+    let outcome = match (&level[..], &list[..]) {
+        ([], _) => Outcome::Unknown,
+        (_, []) => Outcome::OtherTypes,
+        _ => Outcome::Records,
+    };
+    Ok(Told::new(outcome, list))
 }
 
-/// The owners to look for, one after another: the name itself, then its
-/// ancestors from the nearest, each with a star in front.
-fn owners(asked: &Labels) -> Vec<Labels> {
-    let mut owners = vec![asked.clone()];
-    for behind in 1..=asked.len() {
-        let mut owner = vec![b"*".to_vec()];
-        owner.extend_from_slice(&asked[behind..]);
-        owners.push(owner);
+impl<'a> Sight<'a> {
+    /// The records of an owner, a star in front being a label of it.
+    fn of(&self, owner: &[Vec<u8>]) -> Vec<&Visible<'a>> {
+        let records = self.0.iter();
+        records.filter(|record| record.owner == owner).collect()
     }
-    owners
+
+    fn ordinary(&self, name: &[Vec<u8>]) -> Vec<&Visible<'a>> {
+        match name {
+            [first, ..] if first == b"*" => Vec::new(),
+            _ => self.of(name),
+        }
+    }
+
+    fn wildcards(&self, name: &[Vec<u8>]) -> Vec<&Visible<'a>> {
+        self.of(&[&[b"*".to_vec()], name].concat())
+    }
+
+    fn has(&self, name: &[Vec<u8>], record_type: u16) -> bool {
+        let records = self.ordinary(name);
+        records.iter().any(|record| record.is(record_type))
+    }
+
+    /// The records of the name itself or, if it has none, the wildcards of
+    /// the nearest of so many ancestors that has any.
+    fn level(&self, asked: &[Vec<u8>], ancestors: usize) -> Vec<&Visible<'a>> {
+        let mut level = self.ordinary(asked);
+        for cut in 1..=ancestors {
+            if level.is_empty() {
+                level = self.wildcards(&asked[cut..]);
+            }
+        }
+        level
+    }
+}
+
+impl Told {
+    fn new(outcome: Outcome, records: Vec<&Visible<'_>>) -> Told {
+        let given = |record: &Visible<'_>| Given {
+            record_type: record.resource.record_type,
+            lifetime: record.lifetime,
+            end: record.end,
+            data: record.resource.data.clone(),
+        };
+        let list = records.into_iter().map(given).collect();
+        Told { outcome, list }
+    }
 }
 
 fn visible<'a>(records: &'a [Record], question: &Question<'_>) -> Vec<Visible<'a>> {
@@ -78,17 +144,6 @@ fn visible<'a>(records: &'a [Record], question: &Question<'_>) -> Vec<Visible<'a
         }
     }
     visible
-}
-
-fn given(record: &Visible<'_>, question: &Question<'_>) -> Option<Given> {
-    let record_type = record.resource.record_type;
-    let asked = question.record_type == types::ALL || question.record_type == record_type;
-    asked.then(|| Given {
-        record_type,
-        lifetime: record.lifetime,
-        end: record.end,
-        data: record.resource.data.clone(),
-    })
 }
 
 fn labels(wire: &[u8]) -> Labels {

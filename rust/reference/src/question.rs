@@ -1,6 +1,7 @@
 //! A question, and what is wrong with it.
 
 use crate::name::is_wire_name;
+use crate::record::types;
 
 /// A question of a client. The ordinal isn't part of it.
 #[derive(Clone, Copy, Debug)]
@@ -27,6 +28,11 @@ impl Question<'_> {
         } else {
             None
         }
+    }
+
+    /// Whether the type asked for takes records of this one.
+    pub fn takes(&self, record_type: u16) -> bool {
+        self.record_type == types::ALL || self.record_type == record_type
     }
 
     /// How well a location's prefix fits the client: its length, if it fits.

@@ -1,6 +1,8 @@
 //! The bench examples B1 to B12.
 
 mod support;
+
+use reference::Question;
 use support::*;
 
 #[test]
@@ -80,34 +82,62 @@ fn b9_first_bad_line() {
     assert_eq!(refused(source), (3, 2, 0));
 }
 
+/// What a question for addresses is answered at the first two ordinals.
+fn answers(source: &[u8], bytes: usize, name: &str, client: &[u8], moment: u64) -> [[u64; 6]; 2] {
+    let compiled = compiled(source);
+    assert_eq!(compiled.len(), bytes);
+    told(source, name, 1, client, moment);
+    let question = Question {
+        name: &wire(name),
+        record_type: 1,
+        client,
+        moment,
+    };
+    [0, 1].map(|ordinal| reference::ask(&compiled, &question, ordinal).numbers())
+}
+
+const NO_MORE: [u64; 6] = [18, 0, 0, 0, 0, 3];
+
 #[test]
 fn b10_switch_at_a_second() {
-    let source = b"+w:192.0.2.234:0:4000000038af1379\n+w:192.0.2.235::4000000038af1379";
+    let source = b".w\n+w:192.0.2.234:0:4000000038af1379\n+w:192.0.2.235::4000000038af1379";
     let time = 0x4000_0000_38af_1379;
-    let at = |moment| asked_as(source, "w", 255, &[1, 2, 3, 4], moment);
-    assert_eq!(at(time - 1), [(1, 2, vec![192, 0, 2, 234])]);
-    assert_eq!(at(time), [(1, 86_400, vec![192, 0, 2, 235])]);
+    let at = |moment| answers(source, 158, "w", &[1, 2, 3, 4], moment);
+    assert_eq!(at(time - 1), [[0, 1, 2, 124, 4, 3], NO_MORE]);
+    assert_eq!(at(time), [[0, 1, 86_400, 154, 4, 3], NO_MORE]);
 }
 
 #[test]
 fn b11_longest_prefix_wherever_it_stands() {
-    let source = b"+j:192.168.1.2:::in\n+j:1.2.3.4:::ex\n%in:192.168\n%ex";
-    let from = |client| asked_as(source, "j", 1, client, NOW);
-    assert_eq!(from(&[192, 168, 7, 7]), [(1, 86_400, vec![192, 168, 1, 2])]);
-    assert_eq!(from(&[192, 0, 2, 9]), [(1, 86_400, vec![1, 2, 3, 4])]);
+    let source = b".a\n+a:192.0.2.1:::in\n+a:192.0.2.2:::ex\n%in:192.168\n%ex";
+    let from = |client| answers(source, 188, "a", client, NOW);
+    let inside = [0, 1, 86_400, 126, 4, 3];
+    assert_eq!(from(&[192, 168, 7, 7]), [inside, NO_MORE]);
+    let outside = [0, 1, 86_400, 158, 4, 3];
+    assert_eq!(from(&[192, 0, 2, 9]), [outside, NO_MORE]);
 }
 
 #[test]
 fn b12_wildcard_and_deeper_name() {
-    let source = b"+pink.floyd.u.heaven.af.mil:1.2.3.4\n+*.u.heaven.af.mil:1.2.3.200";
-    let wildcard = [(1, 86_400, vec![1, 2, 3, 200])];
-    for name in ["joe", "floyd", "joe.bob", "sally.floyd", "post.pink.floyd"] {
-        let name = format!("{name}.u.heaven.af.mil");
-        assert_eq!(asked(source, &name), wildcard, "{name}");
+    let source = b".u.heaven.af.mil\n+pink.floyd.u.heaven.af.mil:1.2.3.4
++*.u.heaven.af.mil:1.2.3.200";
+    let ask = |name: &str| {
+        let name = format!("{name}u.heaven.af.mil");
+        answers(source, 267, &name, &[1, 2, 3, 4], NOW)
+    };
+    let wildcard = [0, 1, 86_400, 263, 4, 3];
+    for name in [
+        "joe.",
+        "floyd.",
+        "joe.bob.",
+        "sally.floyd.",
+        "post.pink.floyd.",
+    ] {
+        assert_eq!(ask(name), [wildcard, NO_MORE], "{name}");
     }
-    let own = [(1, 86_400, vec![1, 2, 3, 4])];
-    assert_eq!(asked(source, "pink.floyd.u.heaven.af.mil"), own);
-    assert_eq!(asked(source, "u.heaven.af.mil"), []);
+    let own = [0, 1, 86_400, 219, 4, 3];
+    assert_eq!(ask("pink.floyd."), [own, NO_MORE]);
+    assert_eq!(ask(""), [[18, 0, 0, 0, 0, 4]; 2]);
 }
 
 #[test]

@@ -45,8 +45,8 @@ fn stars_stay_in_names_put_together() {
     let server = wire("a.ns.*.b");
     assert_eq!(asked(source, "x.b"), [(2, 259_200, server)]);
     assert_eq!(asked(source, "a.ns.*.b"), [(1, 259_200, vec![1, 2, 3, 4])]);
-    let source = b"&b:1.2.3.4:*";
-    assert_eq!(asked(source, "b")[0].2, wire("*.ns.b"));
+    let source = b".b:1.2.3.4:*";
+    assert_eq!(asked(source, "b")[1].2, wire("*.ns.b"));
     assert_eq!(asked(source, "q.ns.b"), [(1, 259_200, vec![1, 2, 3, 4])]);
     let source = b"=*.b:1.2.3.4";
     assert_eq!(asked(source, "4.3.2.1.in-addr.arpa")[0].2, wire("*.b"));
@@ -137,7 +137,7 @@ fn locations_are_compared_by_their_bytes() {
 
 #[test]
 fn place_of_data_behind_a_location_and_of_no_data() {
-    let bytes = compiled(b"%in\n'x::::in");
+    let bytes = compiled(b"%in\n.\n'x::::in");
     let question = reference::Question {
         name: b"\x01x\x00",
         record_type: 16,
@@ -146,6 +146,7 @@ fn place_of_data_behind_a_location_and_of_no_data() {
     };
     let end = bytes.len() as u64;
     let answer = reference::ask(&bytes, &question, 0);
-    assert_eq!(answer.numbers(), [0, 16, 86_400, end, 0]);
-    assert_eq!(end, 12 + 8 + 3 + 17);
+    assert_eq!(answer.numbers(), [0, 16, 86_400, end, 0, 3]);
+    let zone = compiled(b".").len() as u64;
+    assert_eq!(end, 12 + zone + 8 + 3 + 17);
 }

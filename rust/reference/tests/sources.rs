@@ -148,7 +148,7 @@ fn the_server_field() {
 
 #[test]
 fn empty_names_in_data_are_refused_but_the_root_is_good() {
-    assert_eq!(asked(b"C:.", "")[0].2, [0]);
+    assert_eq!(asked_as(b"C:.", "", 5, &[0; 4], NOW)[0].2, [0]);
     fine("Z:.:.");
     check("Z::.", (12, 1, 2));
     check("Z:.:", (12, 1, 3));

@@ -5,7 +5,12 @@ use reference::Question;
 use support::NOW;
 
 fn number(bytes: &[u8]) -> u64 {
-    ask(bytes, b"\x01q\x00", &[0; 4], NOW)
+    ask(&ours(bytes), b"\x01q\x00", &[0; 4], NOW)
+}
+
+/// The bytes behind a zone of the root, so that every name is ours.
+fn ours(bytes: &[u8]) -> Vec<u8> {
+    [&support::compiled(b"."), bytes].concat()
 }
 
 fn ask(bytes: &[u8], name: &[u8], client: &[u8], moment: u64) -> u64 {
@@ -152,7 +157,7 @@ fn a_bad_record_behind_the_answer_refuses_all() {
 
 #[test]
 fn ancestors_go_by_labels() {
-    let wildcard = record(b"\x01b\x00", &data(b"*", 5, 0));
+    let wildcard = ours(&record(b"\x01b\x00", &data(b"*", 5, 0)));
     assert_eq!(ask(&wildcard, b"\x01a\x01b\x00", &[0; 4], NOW), 0);
     assert_eq!(ask(&wildcard, b"\x03a\x01b\x00", &[0; 4], NOW), 18);
 }

@@ -3,7 +3,7 @@
 
 #![allow(dead_code, missing_docs)]
 
-use reference::meaning;
+use reference::meaning::{self, Given, Told};
 use reference::stream::Stream;
 use reference::Question;
 
@@ -60,11 +60,13 @@ pub fn wire(name: &str) -> Vec<u8> {
     wire
 }
 
-/// Everything that a source answers for a name.
+/// All records of a name, in a zone of ours.
 pub fn asked(source: &[u8], name: &str) -> Vec<Handed> {
     asked_as(source, name, 255, &[127, 0, 0, 1], NOW)
 }
 
+/// The records that answer where the root's zone is ours: its line is put in
+/// front of the source.
 pub fn asked_as(
     source: &[u8],
     name: &str,
@@ -72,31 +74,46 @@ pub fn asked_as(
     client: &[u8],
     moment: u64,
 ) -> Vec<Handed> {
-    let name = wire(name);
+    let ours = [b".\n", source].concat();
+    told(&ours, name, record_type, client, moment).1
+}
+
+/// Outcome and records of a question, as both the bytes and the lines say.
+pub fn told(
+    source: &[u8],
+    name: &str,
+    record_type: u16,
+    client: &[u8],
+    moment: u64,
+) -> (u64, Vec<Handed>) {
     let question = Question {
-        name: &name,
+        name: &wire(name),
         record_type,
         client,
         moment,
     };
-    let bytes = compiled(source);
     let records = reference::records(source, SERIAL).expect("good lines");
-    let given = meaning::answers(&records, &question).expect("a good question");
-    for (ordinal, given) in given.iter().enumerate() {
-        let answer = reference::ask(&bytes, &question, ordinal as u64);
-        let [number, record_type, lifetime, place, length] = answer.numbers();
-        assert_eq!(number, 0);
+    let told = meaning::told(&records, &question).expect("a good question");
+    let outcome = agreed(&compiled(source), &question, &told);
+    let handed = |given: Given| (given.record_type, given.lifetime, given.data);
+    (outcome, told.list.into_iter().map(handed).collect())
+}
+
+/// Holds the bytes to what the lines say, at every ordinal.
+pub fn agreed(bytes: &[u8], question: &Question<'_>, told: &Told) -> u64 {
+    let outcome = told.outcome.number();
+    for (ordinal, given) in told.list.iter().enumerate() {
+        let answer = reference::ask(bytes, question, ordinal as u64);
+        let [number, record_type, lifetime, place, length, its_outcome] = answer.numbers();
+        assert_eq!((number, its_outcome), (0, outcome));
         assert_eq!(record_type, u64::from(given.record_type));
         assert_eq!(lifetime, u64::from(given.lifetime));
         assert_eq!(place + length, given.end);
         assert_eq!(bytes[place as usize..][..length as usize], given.data);
     }
-    for past in [given.len() as u64, 1 << 32, u64::MAX] {
-        let answer = reference::ask(&bytes, &question, past);
-        assert_eq!(answer.numbers(), [18, 0, 0, 0, 0]);
+    for past in [told.list.len() as u64, 1 << 32, u64::MAX] {
+        let answer = reference::ask(bytes, question, past);
+        assert_eq!(answer.numbers(), [18, 0, 0, 0, 0, outcome]);
     }
-    given
-        .into_iter()
-        .map(|given| (given.record_type, given.lifetime, given.data))
-        .collect()
+    outcome
 }
