@@ -5,7 +5,7 @@ use held::Reader;
 use rules::quantities::Moment;
 use rules::replies::Response;
 
-// The record of this ordinal, from 0, in the answer to a question to the bytes that are held, wherever the reader's place is.
+// The outcome of a question to the bytes that are held, and the record of this ordinal, from 0, wherever the reader's place is.
 pub fn ask<'a, 'b, 'c>(
     r: Reader<'a>,
     name: &'b [u8],

@@ -1,4 +1,4 @@
--- The part of a stream that has every record that can answer for a name.
+-- The part of a stream that has every record of a role: those that can answer for a name, or make its control name.
 use Prim.Native.Nat.{ℕ, _≤_}
 use mathlib.Core.Path.{_≡_}
 use mathlib.Core.Bool.{true}

@@ -1,4 +1,5 @@
-// The pass that judges a stream, and finds the client's location and the part of the stream in which records may answer.
+// The pass that judges a stream, and finds the client's location, the part of the stream in which records may answer, and the part in which they
+// may make a control name.
 ghost use mathlib.Core.Path.{_≡_};
 ghost use mathlib.Core.Bool.{true};
 ghost use mathlib.Core.List.{map};

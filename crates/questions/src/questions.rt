@@ -95,7 +95,7 @@ fn question(line: &[u8]) -> QuestionRead
     )
 }
 
-// The record of this ordinal in the answer to a question that was read.
+// The outcome of a question that was read, and the record of this ordinal.
 fn ask_held(records: &[u8], question: QuestionRead, ordinal: u64) -> Response
     requires { ⌜ IsHeld (question .client) × IsWithin (question .name) ⌝ }
     ensures { λ r. ⌜ r ≡ askResponse (now (records .entry)) (heldQuestion question) ordinal ⌝ }
@@ -122,7 +122,7 @@ pub enum LineReply {
     NoQuestion,
 }
 
-// The record of this ordinal, from 0, in the answer to the question that a line is.
+// The outcome of the question that a line is, and the record of this ordinal, from 0.
 pub fn answer_line(records: &[u8], line: &[u8], ordinal: u64) -> LineReply
     ensures { λ r. ⌜ r ≡ lineReply (now (records .entry)) (questionOf (now (line .entry))) ordinal ⌝ }
 {

@@ -1,4 +1,4 @@
--- The level of a question by numbers: the rank of each record, and the records of the largest rank.
+-- The level and the control name of a question by numbers: the rank of each record, and the records of the largest rank.
 use Prim.Native.Nat.{ℕ, _-_, max}
 use mathlib.Core.Bool.{Bool, false, not, _&&_, _||_}
 use mathlib.Core.List.{List, [], _∷_}

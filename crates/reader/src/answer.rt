@@ -91,6 +91,7 @@ fn say(outcome: Outcome, reply: Reply) -> Response
     Response { outcome, reply }
 }
 
+// In our zone, with a level: the type, then the ordinal.
 fn in_level(
     stream: &[u8],
     name: &[u8],
@@ -140,6 +141,7 @@ fn in_level(
     say(Outcome::Records, reply)
 }
 
+// In our zone: the level, which is no higher than the control name, whose length is known.
 fn in_zone(
     stream: &[u8],
     name: &[u8],
@@ -174,6 +176,7 @@ fn in_zone(
     )
 }
 
+// By the control name, whose length is known: our zone with an SOA record there, else a referral to its name servers.
 fn controlled(
     stream: &[u8],
     name: &[u8],

@@ -1,5 +1,5 @@
-// Asking: the records of a compiled stream that answer a question, found in passes of a fixed number: over the stream itself, and then over
-// the part of it that may answer.
+// Asking: the outcome of a question and the records of a compiled stream that answer it, found in passes of a fixed number, whatever the number
+// of labels: one over the stream itself, and then at most five over the parts that may make a control name and that may answer.
 ghost use mathlib.Core.Path.{_≡_};
 ghost use Rattle.rules.specs.Reading.{isClient, refusal, askResponse};
 
@@ -36,7 +36,7 @@ fn refused(fault: AskFault) -> Response
     }
 }
 
-// The record of this ordinal, from 0, in the answer to a question; nothing is assumed of any byte.
+// The outcome of a question, and the record of this ordinal, from 0; nothing is assumed of any byte.
 pub fn ask(
     records: &[u8],
     name: &[u8],

@@ -11,7 +11,7 @@ use Rattle.rules.specs.Questions.{placedFrom, matches, better, bestOf, l
 use Rattle.rules.specs.Reading.{lowered, ordinaryKey, wildcardKey, isLo, momentEnd, behindLo, withLo, byFlag, resourceIn, locationIn, recordIn, ontoRecords, decodeOne, decodeFrom, decode, responseNumbers, typeOf, replyOf, responseOf, responseFrom, refusal, responseDecoded, isClient, askResponse}
 use Rattle.rules.specs.Bench.{Case, Said, sourceOf, rdataAt, tell, said, wire, lengths, plain, day, threeDays, soaTtl, accepted, noMore, only, compiled, refusedWith, compile, asking, table, example, button, panic, heaven, mxHeaven, nsHeaven, service, serviceHost, soaNumbers, zone, changeover, expected, BenchHolds}
 use Rattle.rules.specs.Examples.{refusals, refusalCases, refusalsExpected, documentation, documentationName, unasked, refusedAsk, examples, examplesExpected, ExamplesHold}
-use Rattle.rules.specs.OutcomeExamples.{Row, toldFrom, toldOf, asks, row, found, none, one, nothing, town, referral, from, at, starts, ends, twoSides, rows, OutcomeExamplesHold}
+use Rattle.rules.specs.OutcomeExamples.{Row, toldFrom, toldOf, asks, row, found, none, one, nothing, town, referral, from, at, starts, ends, twoSides, otherSoas, delegated, rows, OutcomeExamplesHold}
 
 -- what the rules say of a case; whoever unfolds this unfolds the rules, which its line names
 saying : Case → Said
@@ -27,5 +27,5 @@ unfolding saying wire lengths plain day threeDays soaTtl accepted noMore only co
 examples-hold = refl
 
 pub outcome-examples-hold : OutcomeExamplesHold
-unfolding saying wire toldFrom toldOf asks row found none one nothing town referral from at starts ends twoSides rows OutcomeExamplesHold
+unfolding saying wire toldFrom toldOf asks row found none one nothing town referral from at starts ends twoSides otherSoas delegated rows OutcomeExamplesHold
 outcome-examples-hold = refl

@@ -11,9 +11,23 @@ use lib.ListN.{length}
 use Rattle.rules.specs.declared.replies.Outcome.{Outcome}
 use Rattle.rules.specs.Lists.{pick, keep, all}
 use Rattle.rules.specs.Questions.{Question, Placed, ordinaryOf, wildcardOf, ancestorsFrom, ancestors, ancestorsTo, firstFull, level, ofType, ordinaryOfType, isFull, controlOf, Result, byLevel, inZone, byControl, answers}
-use Rattle.rules.specs.Outcomes.{visibleTo, controlName, hasRecords, OutcomesFitLists, Refers, ReferralsAreNameServers, listOf01, RecordsAreThoseOf01, TheClimbEndsAtControl, TheControlNameClimbsNowhere}
+use Rattle.rules.specs.Outcomes.{visibleTo, controlName, NamesWithoutControlAreNotOurs, DelegationsRefer, hasRecords, OutcomesFitLists, Refers, ReferralsAreNameServers, listOf01, RecordsAreThoseOf01, TheClimbEndsAtControl, TheControlNameClimbsNowhere}
 use Rattle.rules.proofs.Tests.{pick-ok}
 use Rattle.rules.proofs.Lists.{OnSome}
+
+-- ---- by the control name
+
+pub names-without-control-are-not-ours : NamesWithoutControlAreNotOurs
+unfolding NamesWithoutControlAreNotOurs answers controlName visibleTo byControl
+names-without-control-are-not-ours q ps e = rw e
+
+no-soa : (type : ℕ) (name : List ℕ) (ps : List Placed) (c : List ℕ) → ordinaryOfType 6 c ps ≡ [] → byControl type name ps (some c) ≡ record { outcome = Outcome.Referral; list = ordinaryOfType 2 c ps }
+unfolding byControl isFull pick
+no-soa type name ps c e = rw e
+
+pub delegations-refer : DelegationsRefer
+unfolding DelegationsRefer answers controlName visibleTo
+delegations-refer q ps control e f = rw e (no-soa _ _ _ control f)
 
 -- ---- a list has records exactly with a referral and with records
 

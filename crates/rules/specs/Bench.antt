@@ -1,4 +1,4 @@
--- 01, Bench examples: B1 to B12 as one table under one statement, `bench-holds`.
+-- 01, Bench examples: B1 to B12 as one table under one statement, `bench-holds`; B10, B11 and B12 with the `.` lines of 02's W8.
 use Prim.Native.Nat.{ℕ, _+_, _-_, _*_}
 use Prim.Native.String.{String}
 use mathlib.Core.Path.{_≡_}

@@ -1,4 +1,4 @@
--- More worked examples of 01, as one table under one statement: faults in their order, and errors that look right.
+-- More worked examples of 01 and of 02's W8, as one table under one statement: faults in their order, and errors that look right.
 use Prim.Native.Nat.{ℕ}
 use Prim.Native.String.{String}
 use mathlib.Core.Path.{_≡_}
@@ -94,6 +94,8 @@ examples =
           ∷ asking ("b" ∷ []) (192 ∷ 0 ∷ 2 ∷ 9 ∷ []) 1
           ∷ [];
     }
+    -- bytes that aren't whole records: no outcome
+    ∷ record { lines = []; serial = 7; room = 1; questions = asking ("b" ∷ []) (192 ∷ 0 ∷ 2 ∷ 9 ∷ []) 1 ∷ [] }
     ∷ []
 
 unfoldable pub examplesExpected : List Said
@@ -133,6 +135,7 @@ examplesExpected =
           ∷ (noMore 4 ∷ noMore 4 ∷ [])
           ∷ [];
     }
+    ∷ record { answer = accepted 0; output = 170 ∷ []; told = refusedAsk 14 ∷ [] }
     ∷ []
 
 unfoldable pub ExamplesHold : Type 0

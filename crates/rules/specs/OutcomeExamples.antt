@@ -3,7 +3,7 @@ use Prim.Native.Nat.{ℕ, zero, suc}
 use Prim.Native.String.{String}
 use mathlib.Core.Path.{_≡_}
 use mathlib.Core.List.{List, [], _∷_, map}
-use lib.ListN.{length}
+use lib.ListN.{length, replicate}
 use Rattle.rules.specs.Answers.{sourceRecords}
 use Rattle.rules.specs.Bytes.{bytesOf}
 use Rattle.rules.specs.Questions.{Question}
@@ -67,6 +67,12 @@ ends = ".b" ∷ "&s.b::x.y:0:4000000038af1379" ∷ "+*.b:192.0.2.5" ∷ []
 unfoldable pub twoSides : List String
 twoSides = ".b" ∷ ".s.b::i:::in" ∷ "&s.b::e:::ex" ∷ "%in:192.168" ∷ "%ex" ∷ "+h.s.b:192.0.2.5" ∷ []
 
+unfoldable pub otherSoas : List String
+otherSoas = "Z*.b:m:r" ∷ "&b::x.y" ∷ "Zs.b:m:r" ∷ []
+
+unfoldable pub delegated : List String
+delegated = ".b" ∷ "&s.b::x.y" ∷ "+s.b:192.0.2.1" ∷ "+*.s.b:192.0.2.2" ∷ []
+
 unfoldable pub rows : List Row
 rows =
     row town (asks ("h" ∷ "b" ∷ []) 1) (one 1 86400 421 4 3)
@@ -106,6 +112,25 @@ rows =
     ∷ row ("&:192.0.2.1:a" ∷ "+h:192.0.2.5" ∷ []) (asks ("h" ∷ []) 1) (one 2 259200 24 6 2)
     ∷ row ("." ∷ "+*:192.0.2.5" ∷ []) (asks ("h" ∷ []) 1) (one 1 86400 112 4 3)
     ∷ row ("." ∷ "+*:192.0.2.5" ∷ []) (asks [] 1) (nothing 4)
+    -- a label that holds another name's wire form; letter case
+    ∷ row town (record { name = 3 ∷ 120 ∷ 1 ∷ 98 ∷ 0 ∷ []; type = 1; client = 192 ∷ 0 ∷ 2 ∷ 9 ∷ []; moment = 1 }) (nothing 1)
+    ∷ row town (asks ("H" ∷ "B" ∷ []) 1) (one 1 86400 421 4 3)
+    -- a wildcard's SOA and one below make no zone
+    ∷ row otherSoas (asks ("q" ∷ "b" ∷ []) 1) (one 2 259200 78 5 2)
+    ∷ row otherSoas (asks ("s" ∷ "b" ∷ []) 6) (one 2 259200 78 5 2)
+    -- nothing else that stands at a delegation or below it is answered
+    ∷ row delegated (asks ("s" ∷ "b" ∷ []) 1) (one 2 259200 126 5 2)
+    ∷ row delegated (asks ("q" ∷ "s" ∷ "b" ∷ []) 1) (one 2 259200 126 5 2)
+    -- not ours, whatever the name has; nor is anything of no records
+    ∷ row ("Zb:m:r" ∷ "+q.b:192.0.2.1" ∷ []) (asks ("q" ∷ "b" ∷ []) 16) (nothing 1)
+    ∷ row ("Zb:m:r" ∷ "+q.b:192.0.2.1" ∷ []) (asks ("q" ∷ "b" ∷ []) 1) (nothing 1)
+    ∷ row [] (asks ("b" ∷ []) 1) (nothing 1)
+    -- an alias is a type like others; a name asked with the label `*` has no records of its own
+    ∷ row (".b" ∷ "Cc.b:d" ∷ []) (asks ("c" ∷ "b" ∷ []) 1) (nothing 4)
+    ∷ row (".b" ∷ "&*.f.b::x.y" ∷ []) (asks ("*" ∷ "f" ∷ "b" ∷ []) 1) (nothing 4)
+    -- a delegation for others alone; a client of 16 bytes is at the empty prefix
+    ∷ row (".b" ∷ "&t.b::y.x:::in" ∷ "%in:192.168" ∷ "+*.b:192.0.2.5" ∷ []) (asks ("q" ∷ "t" ∷ "b" ∷ []) 1) (one 1 86400 173 4 3)
+    ∷ row twoSides (from (192 ∷ 168 ∷ replicate 14 0) (asks ("h" ∷ "s" ∷ "b" ∷ []) 1)) (one 2 259200 244 10 2)
     ∷ []
 
 unfoldable pub OutcomeExamplesHold : Type 0

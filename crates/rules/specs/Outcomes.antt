@@ -3,11 +3,11 @@ use Prim.Native.Nat.{ℕ}
 use mathlib.Core.Path.{_≡_}
 use mathlib.Core.Bool.{Bool, true, false, _&&_}
 use mathlib.Core.List.{List, [], _∷_, _++_, map}
-use mathlib.Core.Option.{Option, some}
+use mathlib.Core.Option.{Option, none, some}
 use lib.Dec.{T}
 use Rattle.rules.specs.declared.replies.Outcome.{Outcome}
 use Rattle.rules.specs.Lists.{keep, all, lower}
-use Rattle.rules.specs.Questions.{Question, Placed, locationOf, visible, ordinaryOf, wildcardOf, ancestors, ancestorsTo, firstFull, ofType, isFull, controlOf, answers}
+use Rattle.rules.specs.Questions.{Question, Placed, locationOf, visible, ordinaryOf, wildcardOf, ancestors, ancestorsTo, firstFull, ofType, ordinaryOfType, isFull, controlOf, answers}
 
 -- the records that the client of a question sees at its moment
 unfoldable pub visibleTo : Question → List Placed → List Placed
@@ -21,6 +21,17 @@ controlName q ps =
     let name = map lower (q .name) in
     controlOf (visibleTo q ps) (name ∷ ancestors name)
 
+-- "None: not ours, and no records." Rules out: the name's own records handed out.
+unfoldable pub NamesWithoutControlAreNotOurs : Type 0
+NamesWithoutControlAreNotOurs = (q : Question) (ps : List Placed) → controlName q ps ≡ none → answers q ps ≡ record { outcome = Outcome.NotOurs; list = [] }
+
+-- "without, a delegation, and the call hands out that NS list as a referral, whatever the type"
+-- Rules out: NS asked at the delegation answered as records; an address below it handed out.
+unfoldable pub DelegationsRefer : Type 0
+DelegationsRefer =
+    (q : Question) (ps : List Placed) (control : List ℕ) → controlName q ps ≡ some control → ordinaryOfType 6 control (visibleTo q ps) ≡ []
+    → answers q ps ≡ record { outcome = Outcome.Referral; list = ordinaryOfType 2 control (visibleTo q ps) }
+
 -- A list has records with two outcomes alone, a referral and records, and with these always.
 abbrev pub hasRecords : Outcome → Bool
 hasRecords Outcome.Refused = false
@@ -30,7 +41,7 @@ hasRecords Outcome.Records = true
 hasRecords Outcome.NoSuchType = false
 hasRecords Outcome.NoSuchName = false
 
--- Rules out: an empty referral; records handed out for a name that isn't ours.
+-- Rules out: an empty referral; records handed out with outcome 1, 4 or 5.
 unfoldable pub OutcomesFitLists : Type 0
 OutcomesFitLists = (q : Question) (ps : List Placed) → isFull (answers q ps .list) ≡ hasRecords (answers q ps .outcome)
 
@@ -55,7 +66,7 @@ listOf01 q ps =
 unfoldable pub RecordsAreThoseOf01 : Type 0
 RecordsAreThoseOf01 = (q : Question) (ps : List Placed) → answers q ps .outcome ≡ Outcome.Records → answers q ps .list ≡ listOf01 q ps
 
--- "no higher than the control name, that name's wildcards included": the ancestors up to and with it, and none of the control name itself.
+-- "no higher than the control name, that name's wildcards included": the ancestors up to and with it, and none where the control name itself is asked.
 -- Rules out: an end below the control name, or one name too high.
 unfoldable pub TheClimbEndsAtControl : Type 0
 TheClimbEndsAtControl =

@@ -1,4 +1,4 @@
--- 01, Who sees what: the client's location, visibility, lifetime, level, type and ordinal, over a list of records.
+-- 01, Who sees what, and 02, W8: the client's location, visibility, lifetime, control name, level, type and outcome, over a list of records.
 use Prim.Native.Nat.{ℕ, zero, suc, _+_, _-_, min, max}
 use mathlib.Core.Bool.{Bool, true, false, not, _&&_, _||_}
 use mathlib.Core.List.{List, [], _∷_, map}
@@ -10,7 +10,7 @@ use Rattle.rules.specs.Lists.{pick, keep, beginsWith, sameBytes, lower}
 use Rattle.rules.specs.Records.{Record, location, resource}
 use Rattle.rules.specs.Bytes.{wild, size}
 
--- "A question: a name on the wire, .. a 16-bit type (255: all), a client address of 4 or 16 bytes, a moment (a TAI64 number)"
+-- "A question: a name on the wire .., a 16-bit type (255: all), a client address of 4 or 16 bytes, a moment (a TAI64 number)"
 pub record Question : Type 0 where
   pub name : List ℕ
   pub type : ℕ
@@ -94,7 +94,7 @@ firstFull [] = []
 firstFull ([] ∷ levels) = firstFull levels
 firstFull ((p ∷ ps) ∷ levels) = p ∷ ps
 
--- W8: "goes no higher than the control name": the ancestors that are no shorter
+-- W8: "goes no higher than the control name, that name's wildcards included": the ancestors that are no shorter
 unfoldable pub ancestorsTo : List ℕ → List ℕ → List (List ℕ)
 ancestorsTo control name = keep (λ a. leb (length control) (length a)) (ancestors name)
 

@@ -108,7 +108,7 @@ replyNumber (Reply.Refused AskFault.Moment) = 16
 replyNumber (Reply.Refused AskFault.Client) = 17
 replyNumber (Reply.Refused AskFault.Records) = 14
 
--- "Asking answers a number, a type, a lifetime, and the place (from 0) and length .. With 18 and every refusal all but the number are 0." (and the outcome: W8)
+-- "Asking answers a number, a type, a lifetime, and the place (from 0) and length .. With 18 and every refusal all but the number are 0." With 18 the outcome of W8 is given too, behind these.
 abbrev pub replyValues : Reply → List ℕ
 replyValues (Reply.Found type lifetime place count) = type ∷ lifetime .0 ∷ place ∷ count ∷ []
 replyValues Reply.NoMore = 0 ∷ 0 ∷ 0 ∷ 0 ∷ []

@@ -23,13 +23,14 @@ pub enum Reply {
 
 // The outcome of a question: whether the name is ours, and what is known of it.
 pub enum Outcome {
-    // none: the question was refused
+    // none: asking refused
     Refused,
     NotOurs,
     Referral,
     Records,
     // a name without that type: its level has others
     NoSuchType,
+    // an unknown name: no level
     NoSuchName,
 }
 
