@@ -25,10 +25,7 @@ Cwww.panic.mil:button.panic.mil
 "#;
 
 fn records(test: &str) -> Folder {
-    let folder = Folder::new(test);
-    folder.write("data", SOURCE);
-    folder.good(&["compile", "data", "out", "--serial", "42"]);
-    folder
+    Folder::compiled(test, SOURCE)
 }
 
 #[test]

@@ -18,10 +18,7 @@ const SOURCE: &str = "\
 ";
 
 fn records(test: &str) -> Folder {
-    let folder = Folder::new(test);
-    folder.write("data", SOURCE);
-    folder.good(&["compile", "data", "out", "--serial", "42"]);
-    folder
+    Folder::compiled(test, SOURCE)
 }
 
 #[test]

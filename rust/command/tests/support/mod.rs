@@ -28,6 +28,14 @@ impl Folder {
         Folder { path }
     }
 
+    /// A folder with a source, `data`, and its records, `out`.
+    pub fn compiled(test: &str, source: &str) -> Folder {
+        let folder = Folder::new(test);
+        folder.write("data", source);
+        folder.good(&["compile", "data", "out", "--serial", "42"]);
+        folder
+    }
+
     pub fn file(&self, name: &str) -> PathBuf {
         self.path.join(name)
     }
