@@ -11,5 +11,7 @@ pub mod Lowering
 pub mod Refusals
 pub mod Meaning
 pub mod Outcomes
+pub mod JoinedLines
+pub mod Joining
 pub mod Sizes
 pub mod Bench

@@ -3,7 +3,7 @@ use mathlib.Core.Path.{_≡_, refl, sym, ap}
 use Prim.Native.Nat.{ℕ, zero, suc, _*_, _≤_}
 use native.Mathlib.Omega.{arith}
 use mathlib.Core.Bool.{Bool}
-use mathlib.Core.List.{List, [], _∷_, _++_, map}
+use mathlib.Core.List.{List, [], _∷_, _++_, map, append-assoc}
 use mathlib.Core.Option.{Option, none, some}
 use lib.ListN.{length, getD, getElem?, length-append}
 use lib.Dec.{T, eqb}
@@ -73,6 +73,11 @@ pub keep-append {ℓ} : {A : Type ℓ} (p : A → Bool) (xs ys : List A) → kee
 unfolding keep
 keep-append p [] ys = refl
 keep-append p (x ∷ xs) ys = rw (keep-append p xs ys) (sym (pick-ap (λ k. k ++ keep p ys) (p x) _ _))
+
+pub join-append {ℓ} : {A : Type ℓ} (xs ys : List (List A)) → joinAll (xs ++ ys) ≡ joinAll xs ++ joinAll ys
+unfolding joinAll
+join-append [] ys = refl
+join-append (x ∷ xs) ys = rw (join-append xs ys) (sym (append-assoc x (joinAll xs) (joinAll ys)))
 
 -- ---- lengths
 

@@ -10,6 +10,7 @@ pub mod Questions
 pub mod Reading
 pub mod Demands
 pub mod Outcomes
+pub mod Joining
 pub mod Bench
 pub mod Examples
 pub mod OutcomeExamples

@@ -33,6 +33,16 @@ module _ {ℓ} {A : Type ℓ} where
   joinAll [] = []
   joinAll (x ∷ xs) = x ++ joinAll xs
 
+  -- every element has P
+  abbrev pub Each : (A → Type 0) → List A → Type 0
+  Each P [] = Unit {0}
+  Each P (x ∷ xs) = P x × Each P xs
+
+-- the sum of numbers
+unfoldable pub total : List ℕ → ℕ
+total [] = 0
+total (n ∷ ns) = n + total ns
+
 -- an equal byte is among the bytes
 unfoldable pub has : ℕ → List ℕ → Bool
 has b [] = false
