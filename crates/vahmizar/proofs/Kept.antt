@@ -17,7 +17,7 @@ use Rattle.rules.proofs.Meaning.{keeps-the-meaning}
 use Rattle.vahmizar.specs.Promises.{TheCallRefusesExactly, Askable, TheCallsKeepTheMeaning}
 
 -- past the check of the answer's length
-past {ℓ} : {A : Type ℓ} (n : ℕ) (s : List ℕ) (x y z : A) → length s ≡ n → x ≡ pick (eqb (length s) n) y z → x ≡ y
+pub past {ℓ} : {A : Type ℓ} (n : ℕ) (s : List ℕ) (x y z : A) → length s ≡ n → x ≡ pick (eqb (length s) n) y z → x ≡ y
 unfolding pick
 past n s x y z h e = rw (eq-eqb _ _ h) at e
 

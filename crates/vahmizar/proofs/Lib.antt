@@ -1,2 +1,3 @@
 mod Laid
 pub mod Kept
+pub mod Joined
