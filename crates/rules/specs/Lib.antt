@@ -14,3 +14,4 @@ pub mod Joining
 pub mod Bench
 pub mod Examples
 pub mod OutcomeExamples
+pub mod JoiningExamples
