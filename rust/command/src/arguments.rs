@@ -1,6 +1,7 @@
 //! The words of a call, sorted into plain ones and options.
 
-use std::ffi::OsString;
+use std::ffi::{OsStr, OsString};
+use std::os::unix::ffi::OsStrExt;
 
 use crate::failure::Failure;
 
@@ -9,6 +10,8 @@ use crate::failure::Failure;
 pub struct Arguments {
     /// Words that are no options, in order.
     pub plain: Vec<OsString>,
+    /// What stood behind `-o` or `--output`.
+    pub output: Option<OsString>,
     /// What stood behind `--serial`.
     pub serial: Option<String>,
     /// What stood behind `--client`.
@@ -24,15 +27,11 @@ impl Arguments {
     pub fn sort(mut words: impl Iterator<Item = OsString>) -> Result<Arguments, Failure> {
         let mut arguments = Arguments::default();
         while let Some(word) = words.next() {
-            let Some(text) = word.to_str().filter(|text| is_option(text)) else {
+            let Some((option, value)) = split(&word) else {
                 arguments.plain.push(word);
                 continue;
             };
-            let (option, value) = match text.split_once('=') {
-                Some((option, value)) => (option, Some(value.to_owned())),
-                None => (text, None),
-            };
-            let place = match (option, &value) {
+            let place = match (option, value) {
                 ("--", None) => {
                     arguments.plain.extend(words);
                     break;
@@ -41,19 +40,23 @@ impl Arguments {
                     arguments.help = true;
                     continue;
                 }
+                ("-o" | "--output", _) => {
+                    once(option, &arguments.output)?;
+                    arguments.output = Some(given(option, value, &mut words)?);
+                    continue;
+                }
                 ("--serial", _) => &mut arguments.serial,
                 ("--client", _) => &mut arguments.client,
                 ("--at", _) => &mut arguments.at,
-                _ => return Err(Failure::usage(format!("no such option: {text}"))),
+                _ => {
+                    let word = word.display();
+                    return Err(Failure::usage(format!("no such option: {word}")));
+                }
             };
-            if place.is_some() {
-                return Err(Failure::usage(format!("{option} is given twice")));
-            }
-            let value = match value {
-                Some(value) => value,
-                None => following(option, words.next())?,
-            };
-            *place = Some(value);
+            once(option, place)?;
+            let value = given(option, value, &mut words)?.into_string();
+            let no_text = |_| Failure::usage(format!("{option} has a value that is no text"));
+            *place = Some(value.map_err(no_text)?);
         }
         Ok(arguments)
     }
@@ -72,9 +75,18 @@ impl Arguments {
         }
     }
 
+    /// The plain words, of which there must be one at least.
+    pub fn some(&self, name: &str) -> Result<&[OsString], Failure> {
+        if self.plain.is_empty() {
+            return Err(Failure::usage(format!("{name} is missing")));
+        }
+        Ok(&self.plain)
+    }
+
     /// Refuses options that the command doesn't have.
     pub fn only(&self, options: &[&str]) -> Result<(), Failure> {
         let given = [
+            ("-o", self.output.is_some()),
             ("--serial", self.serial.is_some()),
             ("--client", self.client.is_some()),
             ("--at", self.at.is_some()),
@@ -88,15 +100,33 @@ impl Arguments {
     }
 }
 
+/// An option, and the value that stands in the same word. A path behind it need
+/// not be text.
+fn split(word: &OsStr) -> Option<(&str, Option<&OsStr>)> {
+    let mut parts = word.as_bytes().splitn(2, |&byte| byte == b'=');
+    let option = str::from_utf8(parts.next()?).ok()?;
+    is_option(option).then_some((option, parts.next().map(OsStr::from_bytes)))
+}
+
 /// A lone dash and a negative number are plain words.
 fn is_option(text: &str) -> bool {
     let second = text.strip_prefix('-').and_then(|rest| rest.bytes().next());
     second.is_some_and(|byte| !byte.is_ascii_digit())
 }
 
-fn following(option: &str, value: Option<OsString>) -> Result<String, Failure> {
-    let value = value.ok_or_else(|| Failure::usage(format!("{option} needs a value")))?;
-    value
-        .into_string()
-        .map_err(|_| Failure::usage(format!("{option} has a value that is no text")))
+fn once<T>(option: &str, before: &Option<T>) -> Result<(), Failure> {
+    match before {
+        Some(_) => Err(Failure::usage(format!("{option} is given twice"))),
+        None => Ok(()),
+    }
+}
+
+/// An option's value, from the same word or the next one.
+fn given(
+    option: &str,
+    value: Option<&OsStr>,
+    mut words: impl Iterator<Item = OsString>,
+) -> Result<OsString, Failure> {
+    let value = value.map(OsStr::to_owned).or_else(|| words.next());
+    value.ok_or_else(|| Failure::usage(format!("{option} needs a value")))
 }

@@ -3,11 +3,14 @@
 pub const TEXT: &str = "\
 vahmizar: compile tinydns data and ask compiled records
 
+  vahmizar compile DATA... -o OUT [--serial N]
   vahmizar compile DATA OUT [--serial N]
-      Compiles the source DATA and replaces OUT by its records, all at once.
-      If anything is wrong, OUT stays as it was.
-  vahmizar check DATA [--serial N]
-      Judges DATA and says how many bytes its records take. Writes nothing.
+      Compiles the sources DATA and replaces OUT by their records, all at once.
+      If anything is wrong, OUT stays as it was; without -o also if it looks
+      like a source.
+  vahmizar check DATA... [--serial N]
+      Judges each DATA and says how many bytes its records take, and how many
+      they take joined. Writes nothing.
   vahmizar ask RECORDS NAME TYPE [--client ADDRESS] [--at WHEN]
       Says how the question ends, then prints the records, one a line:
       owner, lifetime in seconds, type, data.
@@ -17,11 +20,14 @@ vahmizar: compile tinydns data and ask compiled records
   vahmizar help
       Prints this page, as --help and -h do.
 
-  DATA      a source of at most 1,048,576 bytes
+  DATA      a source. Several are joined, in the order given: one that doesn't
+            end in a line end gets one, so that its last line doesn't run on
+            into the next source. All together have at most 1,048,576 bytes
+  OUT       the file to write; --output OUT and --output=OUT mean -o OUT
   RECORDS   the records of a source, as compile writes them into OUT
   N         serial number of SOA records without their own, 0 to 4294967295;
-            without --serial the modification time of DATA, modulo 2^32,
-            or 1 where that is 0
+            without --serial the modification time of DATA, of several the
+            latest, modulo 2^32, or 1 where that is 0
   NAME      a domain name; \\. is a dot in a label, \\065 the byte 65
   TYPE      A, NS, CNAME, SOA, PTR, MX, TXT, AAAA, SRV and others by name,
             0 to 65535 or TYPE65 by number, ANY for all
@@ -36,12 +42,13 @@ vahmizar: compile tinydns data and ask compiled records
 Options may stand anywhere behind the command's name; -- ends them. A refused
 source is reported as
     data:12:2: refused 6: address or prefix
-with line 12 and field 2, and the field's text on the line below.
+with line 12 and field 2 of this file, and the field's text on the line below.
+Each DATA is judged by itself, so one call finds the first fault of every one.
 
 Exit status, and what the first line of ask says behind NAME and TYPE:
   0  done; ask: 2 records
      They follow.
-  1  refused: the source, the records or the question
+  1  refused: a source, the records or the question
   2  wrong usage, or a file that can't be read or written
   3  ask: referral to the name servers of ZONE
      ZONE holds the name and is handed on to others, as & lines do it. Its NS

@@ -1,7 +1,15 @@
 //! What a file may be that isn't records.
 
+use std::fs::File;
+use std::io::Read;
+use std::path::Path;
+
 /// The pairs in front of a data.cdb's records: position and slots of a table.
 const PAIRS: usize = 256;
+
+/// Bytes that are enough to tell a source from records, which have zeros among
+/// the first four.
+const BEGINNING: u64 = 4096;
 
 /// A guess at what a file is.
 #[derive(Clone, Copy, Debug, PartialEq, Eq)]
@@ -23,6 +31,13 @@ impl Lookalike {
             None
         }
     }
+}
+
+/// Whether a file begins as a source does. One that can't be read doesn't.
+pub fn begins_as_source(path: &Path) -> bool {
+    let mut bytes = Vec::new();
+    let read = File::open(path).and_then(|file| file.take(BEGINNING).read_to_end(&mut bytes));
+    read.is_ok() && is_source(&bytes)
 }
 
 /// Sources are text, and the first line that isn't blank has a known kind.
@@ -60,6 +75,13 @@ mod tests {
         }
         for other in ["", "\n", "!", "$TTL 300", "+a\0", "\x7fELF"] {
             assert_eq!(Lookalike::of(other.as_bytes()), None, "{other}");
+        }
+    }
+
+    #[test]
+    fn files_that_cannot_be_read() {
+        for path in ["", ".", "/dev/null/none"] {
+            assert!(!begins_as_source(Path::new(path)), "{path}");
         }
     }
 

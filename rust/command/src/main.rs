@@ -7,12 +7,15 @@ mod compiling;
 mod dates;
 mod failure;
 mod help;
+mod joining;
 mod lookalikes;
 mod moments;
 mod names;
 mod output;
 mod refusal;
+mod serial;
 mod show;
+mod sources;
 mod timing;
 mod types;
 

@@ -3,7 +3,7 @@
 use std::fmt::Write;
 use std::path::Path;
 
-use vahmizar::{AskRefusal, Fault, Records, Refusal};
+use vahmizar::{AskRefusal, Fault, Records, Refusal, LONGEST_SOURCE};
 
 use crate::failure::Failure;
 use crate::lookalikes::Lookalike;
@@ -32,6 +32,16 @@ pub fn of_source(path: &Path, source: &[u8], refusal: Refusal) -> Failure {
         message += &visible(text);
     }
     Failure::Refused(message)
+}
+
+/// Sources that are too long joined.
+pub fn of_joined(sources: usize, bytes: u64) -> Failure {
+    let fault = Fault::SourceTooLong;
+    let (number, words) = (fault.number(), fault.words());
+    Failure::Refused(format!(
+        "{sources} sources joined: refused {number}: {words}: \
+         they have {bytes} bytes, at most {LONGEST_SOURCE} are taken"
+    ))
 }
 
 /// Refused records, or a refused question.

@@ -12,12 +12,10 @@ use crate::{moments, say};
 /// time of a line are told behind the others.
 pub fn time(arguments: Arguments) -> Result<(), Failure> {
     arguments.only(&[])?;
-    if arguments.plain.is_empty() {
-        return Err(Failure::usage("WHEN is missing"));
-    }
+    let whens = arguments.some("WHEN")?;
     let mut lines = String::new();
     let mut wrong = Vec::new();
-    for when in &arguments.plain {
+    for when in whens {
         match field(when) {
             Ok(moment) => {
                 let number = moment.tai64();

@@ -64,7 +64,7 @@ impl Folder {
     }
 
     /// Runs any program so.
-    pub fn run_program(&self, program: impl AsRef<OsStr>, words: &[&str]) -> Run {
+    pub fn run_program(&self, program: impl AsRef<OsStr>, words: &[impl AsRef<OsStr>]) -> Run {
         let output = Command::new(program)
             .args(words)
             .current_dir(&self.path)
