@@ -27,7 +27,19 @@ pub fn compile(arguments: Arguments) -> Result<(), Failure> {
     if arguments.output.is_none() && lookalikes::begins_as_source(&target) {
         return Err(forgotten_option(Path::new(&paths[0]), out));
     }
-    let records = Joined::read(paths).records(serial)?;
+    let mut records = Vec::new();
+    let judged = Joined::read(paths).judge(serial, |source, serial| {
+        let more = vahmizar::compile_to_vec(source, serial)?;
+        let room = more.len();
+        // One source, as most calls have it, needs no copy.
+        if records.is_empty() {
+            records = more;
+        } else {
+            records.extend_from_slice(&more);
+        }
+        Ok(room)
+    });
+    Failure::all(judged.failures)?;
     output::replace(&target, &records).map_err(trouble)
 }
 
@@ -35,21 +47,21 @@ pub fn compile(arguments: Arguments) -> Result<(), Failure> {
 pub fn check(arguments: Arguments) -> Result<(), Failure> {
     arguments.only(&["--serial"])?;
     let paths = arguments.some("DATA")?;
-    // It changes no judgement and no size, but a wrong one is told.
-    arguments.serial.as_deref().map(parse_serial).transpose()?;
+    let serial = arguments.serial.as_deref().map(parse_serial).transpose()?;
     sources::places(paths)?;
-    let mut joined = Joined::read(paths);
+    let mut judged = Joined::read(paths).judge(serial, vahmizar::check);
     let mut lines = String::new();
-    for good in &joined.good {
-        let (path, room) = (good.path.display(), good.room);
+    for (path, room) in &judged.good {
+        let path = path.display();
         lines += &format!("{path}: good, its records take {room} bytes\n");
     }
-    if paths.len() > 1 && joined.failures.is_empty() {
-        let (count, room) = (paths.len(), joined.room());
+    if paths.len() > 1 && judged.failures.is_empty() {
+        let count = paths.len();
+        let room: usize = judged.good.iter().map(|(_, room)| room).sum();
         lines += &format!("{count} sources joined: good, their records take {room} bytes\n");
     }
-    joined.failures.extend(say(&lines).err());
-    Failure::all(joined.failures)
+    judged.failures.extend(say(&lines).err());
+    Failure::all(judged.failures)
 }
 
 /// With `-o` all plain words are sources, without there is one.

@@ -4,96 +4,98 @@
 
 use std::ffi::OsString;
 use std::path::Path;
+use std::time::SystemTime;
 
-use vahmizar::LONGEST_SOURCE;
+use vahmizar::{Refusal, LONGEST_SOURCE};
 
 use crate::failure::Failure;
 use crate::refusal;
 use crate::serial::modification_serial;
 use crate::sources::Source;
 
-/// Judging takes a serial number, but doesn't depend on it: any has 4 bytes.
+/// For sizes alone, which don't depend on it: any serial number takes 4 bytes.
 const ANY_SERIAL: u32 = 1;
 
-/// What became of the sources of a call.
+/// The sources of a call, read in the order given.
 #[derive(Default)]
 pub struct Joined<'a> {
-    /// Those that are good by themselves, in order.
-    pub good: Vec<Good<'a>>,
-    /// What is wrong with the others, in order, and with all of them joined.
-    pub failures: Vec<Failure>,
+    parts: Vec<(&'a Path, Part)>,
+    latest: Option<SystemTime>,
     length: Length,
 }
 
-/// A source that is good by itself.
-pub struct Good<'a> {
-    /// The file, as it was named.
-    pub path: &'a Path,
-    /// How many bytes its records take.
-    pub room: usize,
-    /// Without its bytes if nothing will be compiled anyway.
-    source: Source,
+enum Part {
+    Held(Source),
+    /// Not held, since nothing will be compiled: what is said of it is known.
+    Told(Result<usize, Failure>),
+}
+
+/// What is said of the sources of a call.
+#[derive(Default)]
+pub struct Judged<'a> {
+    /// Those that are good by themselves, and the bytes that their records take.
+    pub good: Vec<(&'a Path, usize)>,
+    /// What is wrong with the others, in order, and with all of them joined.
+    pub failures: Vec<Failure>,
 }
 
 impl<'a> Joined<'a> {
-    /// Reads and judges every source, one after the other.
+    /// Reads every source, one after the other.
     pub fn read(paths: &'a [OsString]) -> Joined<'a> {
         let mut joined = Joined::default();
         for path in paths.iter().map(Path::new) {
-            match Source::read(path) {
+            let part = match Source::read(path) {
                 Ok(source) => joined.add(path, source),
                 Err(error) => {
-                    joined.failures.push(Failure::file(path, error));
                     joined.length.is_unknown = true;
+                    Part::Told(Err(Failure::file(path, error)))
                 }
-            }
-        }
-        if joined.length.is_over() && !joined.length.is_unknown {
-            let refused = refusal::of_joined(paths.len(), joined.length.bytes);
-            joined.failures.push(refused);
+            };
+            joined.parts.push((path, part));
         }
         joined
     }
 
-    fn add(&mut self, path: &'a Path, mut source: Source) {
+    fn add(&mut self, path: &Path, source: Source) -> Part {
         self.length.add(&source.bytes);
-        match vahmizar::check(&source.bytes, ANY_SERIAL) {
-            Ok(room) => {
-                // However many there are, no more is kept than one may have.
-                if self.length.is_over() || !self.failures.is_empty() {
-                    source.bytes = Vec::new();
-                }
-                self.good.push(Good { path, room, source });
-            }
-            Err(refused) => {
-                let refused = refusal::of_source(path, &source.bytes, refused);
-                self.failures.push(refused);
-            }
+        self.latest = self.latest.max(Some(source.modified));
+        // However many there are, no more is held than one may have.
+        if self.length.is_over() {
+            let judged = vahmizar::check(&source.bytes, ANY_SERIAL);
+            let told = judged.map_err(|refused| refusal::of_source(path, &source.bytes, refused));
+            return Part::Told(told);
         }
+        Part::Held(source)
     }
 
-    /// How many bytes the records of the good ones take.
-    pub fn room(&self) -> usize {
-        self.good.iter().map(|good| good.room).sum()
-    }
-
-    /// The records of all sources, if nothing is wrong with any. Where no
-    /// serial number is given it is made of the time of the latest change,
-    /// which is known only when all have been read.
-    pub fn records(self, serial: Option<u32>) -> Result<Vec<u8>, Failure> {
-        let room = self.room();
-        Failure::all(self.failures)?;
-        let latest = self.good.iter().map(|good| good.source.modified).max();
-        let latest = latest.map_or(ANY_SERIAL, modification_serial);
+    /// Has each source judged by itself, by a function of its bytes and the
+    /// serial number that says how many bytes its records take. Where no serial
+    /// number is given it is made of the time of the latest change.
+    pub fn judge(
+        self,
+        serial: Option<u32>,
+        mut judge: impl FnMut(&[u8], u32) -> Result<usize, Refusal>,
+    ) -> Judged<'a> {
+        let latest = self.latest.map_or(ANY_SERIAL, modification_serial);
         let serial = serial.unwrap_or(latest);
-        let mut records = vec![0; room];
-        let mut written = 0;
-        for Good { path, source, .. } in &self.good {
-            written += vahmizar::compile(&source.bytes, serial, &mut records[written..])
-                .map_err(|refused| refusal::of_source(path, &source.bytes, refused))?;
+        let count = self.parts.len();
+        let mut judged = Judged::default();
+        for (path, part) in self.parts {
+            let told = match part {
+                Part::Held(source) => judge(&source.bytes, serial)
+                    .map_err(|refused| refusal::of_source(path, &source.bytes, refused)),
+                Part::Told(told) => told,
+            };
+            match told {
+                Ok(room) => judged.good.push((path, room)),
+                Err(failure) => judged.failures.push(failure),
+            }
         }
-        records.truncate(written);
-        Ok(records)
+        if self.length.is_over() && !self.length.is_unknown {
+            let refused = refusal::of_joined(count, self.length.bytes);
+            judged.failures.push(refused);
+        }
+        judged
     }
 }
 

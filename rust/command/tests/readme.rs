@@ -10,10 +10,12 @@ use support::Folder;
 fn the_readme_shows_what_the_command_prints() {
     let root = Path::new(env!("CARGO_MANIFEST_DIR")).join("../..");
     let readme = fs::read_to_string(root.join("README.md")).expect("README.md");
-    let town = fs::read(root.join("examples/town")).expect("examples/town");
     let folder = Folder::new("readme");
     fs::create_dir(folder.file("examples")).expect("a folder for the test");
-    folder.write("examples/town", town);
+    for example in ["town", "north", "south"].map(|name| format!("examples/{name}")) {
+        let bytes = fs::read(root.join(&example)).expect(&example);
+        folder.write(&example, bytes);
+    }
 
     let mut commands = 0;
     let mut printed = String::new();

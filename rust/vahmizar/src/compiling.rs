@@ -60,6 +60,20 @@ pub fn check(source: &[u8], serial: u32) -> Result<usize, Refusal> {
 /// assert_eq!(bytes.len(), 32);
 /// # Ok::<(), vahmizar::Refusal>(())
 /// ```
+///
+/// Sources that are joined, each but the last empty or ending in a line end,
+/// give their records one behind the other, as long as they have at most
+/// [`LONGEST_SOURCE`] bytes together. So where one of several has changed, it
+/// alone has to be compiled again, with the same serial:
+///
+/// ```
+/// use vahmizar::compile_to_vec;
+///
+/// let (north, south) = (b"+n.b:192.0.2.1\n", b"+s.b:192.0.2.2\n");
+/// let joined = compile_to_vec(&[&north[..], south].concat(), 1)?;
+/// assert_eq!(joined, [compile_to_vec(north, 1)?, compile_to_vec(south, 1)?].concat());
+/// # Ok::<(), vahmizar::Refusal>(())
+/// ```
 pub fn compile_to_vec(source: &[u8], serial: u32) -> Result<Vec<u8>, Refusal> {
     // Most records take two to three times the bytes of their line. Where that
     // is too little, the first call says how much it is.
