@@ -12,8 +12,8 @@ use Rattle.rules.specs.Reading.{lowered, ordinaryKey, wildcardKey, isLo,
 use Rattle.rules.specs.Bench.{Case, Said, sourceOf, rdataAt, tell, said, wire, lengths, plain, day, threeDays, soaTtl, accepted, noMore, only, compiled, refusedWith, compile, asking, table, example, button, panic, heaven, mxHeaven, nsHeaven, service, serviceHost, soaNumbers, zone, changeover, expected, BenchHolds}
 use Rattle.rules.specs.Examples.{refusals, refusalCases, refusalsExpected, documentation, documentationName, unasked, refusedAsk, examples, examplesExpected, ExamplesHold}
 use Rattle.rules.specs.OutcomeExamples.{Row, toldFrom, toldOf, asks, row, found, none, one, nothing, town, referral, from, at, starts, ends, twoSides, otherSoas, delegated, rows, OutcomeExamplesHold}
-use Rattle.rules.specs.Joining.{ended, closed, joinedFiles}
-use Rattle.rules.specs.JoiningExamples.{joined, saidOf, north, south, joinedRows, JoiningExamplesHold}
+use Rattle.rules.specs.Joining.{ended, endedButLast, closed, joinedFiles}
+use Rattle.rules.specs.JoiningExamples.{joined, saidOf, north, south, joinedRows, joinedBytes, JoiningExamplesHold}
 
 -- what the rules say of a case; whoever unfolds this unfolds the rules, which its line names
 saying : Case → Said
@@ -33,5 +33,5 @@ unfolding saying wire toldFrom toldOf asks row found none one nothing town refer
 outcome-examples-hold = refl
 
 pub joining-examples-hold : JoiningExamplesHold
-unfolding saying ended closed joinedFiles joined saidOf north south joinedRows JoiningExamplesHold
-joining-examples-hold = refl
+unfolding saying ended endedButLast closed joinedFiles joined saidOf north south joinedRows joinedBytes
+joining-examples-hold = record { answers = refl; bytes = refl; ends = refl }

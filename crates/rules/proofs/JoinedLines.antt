@@ -6,10 +6,11 @@ use mathlib.Core.Bool.{Bool, true, false, not}
 use mathlib.Core.List.{List, [], _∷_, _++_, map, append-nil}
 use lib.ListN.{length, length-append}
 use lib.Dec.{T, eqb}
+use mir.Facts.{yes-and}
 use Rattle.rules.specs.Lists.{pick, keep, joinAll, ontoFirst}
 use Rattle.rules.specs.Kinds.{linesOf}
-use Rattle.rules.specs.Joining.{ended, newlines, EndedButLast, closed, joinedFiles, ClosingKeepsTheLines}
-use Rattle.rules.proofs.Tests.{pick-ok, pick-yes, pick-no, pick-ap}
+use Rattle.rules.specs.Joining.{ended, newlines, endedButLast, closed, joinedFiles, EndedFilesStay, ClosingKeepsTheLines}
+use Rattle.rules.proofs.Tests.{and-l, and-r, pick-ok, pick-yes, pick-no, pick-ap}
 use Rattle.rules.proofs.Lists.{keep-append}
 
 -- ---- two sources
@@ -104,11 +105,23 @@ files-lines [] = unfold linesOf in refl
 files-lines (f ∷ []) = sym (append-nil (linesOf f))
 files-lines (f ∷ g ∷ fs) = rw (lines-append (closed f) (joinedFiles (g ∷ fs)) (closed-ended f), closed-lines f, files-lines (g ∷ fs))
 
-pub ended-files : (sources : List (List ℕ)) → EndedButLast sources → joinedFiles sources ≡ joinAll sources
-unfolding joinedFiles joinAll
+ended-files : (sources : List (List ℕ)) → T (endedButLast sources) → joinedFiles sources ≡ joinAll sources
+unfolding joinedFiles joinAll endedButLast
 ended-files [] e = refl
 ended-files (s ∷ []) e = sym (append-nil s)
-ended-files (s ∷ t ∷ ss) e = rw (ended-closed s (e .0), ended-files (t ∷ ss) (e .1))
+ended-files (s ∷ t ∷ ss) e =
+    rw (ended-closed s (and-l (ended s) (endedButLast (t ∷ ss)) e), ended-files (t ∷ ss) (and-r (ended s) (endedButLast (t ∷ ss)) e))
+
+pub ended-files-stay : EndedFilesStay
+unfolding EndedFilesStay
+ended-files-stay files e = ended-files files e
+
+pub ended-lines : (sources : List (List ℕ)) → T (endedButLast sources) → linesOf (joinAll sources) ≡ joinAll (map linesOf sources)
+ended-lines sources e = ap linesOf (sym (ended-files sources e)) ∙ files-lines sources
+
+pub ended-two : (a b : List ℕ) → T (ended a) → T (endedButLast (a ∷ b ∷ []))
+unfolding endedButLast
+ended-two a b t = yes-and (ended a) true t tt
 
 newlines-append : (a b : List ℕ) → newlines (a ++ b) ≡ newlines a + newlines b
 unfolding newlines

@@ -14,12 +14,12 @@ use Rattle.rules.specs.Records.{Record}
 use Rattle.rules.specs.Bytes.{encode, sizeOfAll, bytesOf}
 use Rattle.rules.specs.Answers.{isDone, isGood, lineRecords, lineFault, longestSource, sourceRecords, answer, judgeLines, judgeSource, ifRoom, compileAnswer}
 use Rattle.rules.specs.Demands.{Accepted, bytesNeeded, compiledBytes, CompilingRefusesExactly}
-use Rattle.rules.specs.Joining.{ended, newlines, Joined, SourcesJoin, EndedButLast, InTurn, AnyNumberJoin, linesDown, RefusalsMove, closed, joinedFiles, FilesJoin, TheFirstRefusalDecides}
+use Rattle.rules.specs.Joining.{ended, newlines, Joined, SourcesJoin, InTurn, AnyNumberJoin, linesDown, RefusalsMove, closed, joinedFiles, FilesJoin, TheFirstRefusalDecides}
 use Rattle.rules.proofs.Tests.{pick-ok, pick-yes, pick-no, and-l, and-r}
 use Rattle.rules.proofs.Lists.{all-append, all-of, all-true, join-append}
 use Rattle.rules.proofs.Refusals.{refuses-exactly}
 use Rattle.rules.proofs.Meaning.{sizes-add, written}
-use Rattle.rules.proofs.JoinedLines.{lines-append, lines-count, files-lines, ended-files, files-count}
+use Rattle.rules.proofs.JoinedLines.{lines-append, lines-count, files-lines, ended-lines, files-count}
 
 -- ---- records, by lines
 
@@ -74,7 +74,7 @@ files-join files serial short g = in-turn serial (joinedFiles files) files (file
 
 pub any-number-join : AnyNumberJoin
 unfolding AnyNumberJoin
-any-number-join sources serial e short g = in-turn serial (joinAll sources) sources (ap linesOf (sym (ended-files sources e)) ∙ files-lines sources) short g
+any-number-join sources serial e short g = in-turn serial (joinAll sources) sources (ended-lines sources e) short g
 
 module _ (a b : List ℕ) (serial : ℕ) (g : Accepted a) (h : Accepted b) where
   -- what two give in turn, without the empty list behind them
@@ -145,14 +145,14 @@ named-not-done source serial room k e =
     rw (not-done source serial room bad) bad
 
 -- a source with good lines in front of those of a refused file
-moved : (joined file : List ℕ) (front behind : List (List ℕ)) (serial roomFile room k : ℕ)
-    → linesOf joined ≡ front ++ (linesOf file ++ behind) → T (all isGood front) → length joined ≤ longestSource → compileAnswer file serial roomFile .line ≡ suc k
-    → compileAnswer joined serial room ≡ linesDown (length front) (compileAnswer file serial roomFile)
+moved : (joined file : List ℕ) (front behind : List (List ℕ)) (serialFile roomFile serial room k : ℕ)
+    → linesOf joined ≡ front ++ (linesOf file ++ behind) → T (all isGood front) → length joined ≤ longestSource → compileAnswer file serialFile roomFile .line ≡ suc k
+    → compileAnswer joined serial room ≡ linesDown (length front) (compileAnswer file serialFile roomFile)
 unfolding CompilingRefusesExactly linesDown answer
-moved joined file front behind serial roomFile room k lines good short e =
-    let bad : T (not (isDone (judgeSource file .fault))) = named-line file serial roomFile k e in
-    let is : compileAnswer file serial roomFile ≡ judgeLines 1 (linesOf file) =
-    not-done file serial roomFile bad ∙ judged-lines file (refuses-exactly file serial roomFile .onlyBadLine k e .0)
+moved joined file front behind serialFile roomFile serial room k lines good short e =
+    let bad : T (not (isDone (judgeSource file .fault))) = named-line file serialFile roomFile k e in
+    let is : compileAnswer file serialFile roomFile ≡ judgeLines 1 (linesOf file) =
+    not-done file serialFile roomFile bad ∙ judged-lines file (refuses-exactly file serialFile roomFile .onlyBadLine k e .0)
     in
     let both : judgeSource joined ≡ linesDown (length front) (judgeLines 1 (linesOf file)) =
     judged-lines joined short
@@ -160,20 +160,20 @@ moved joined file front behind serial roomFile room k lines good short e =
     ∙ judge-down 1 front (linesOf file ++ behind) good
     ∙ judge-later 1 (length front) (linesOf file) behind k (ap (λ (x : Answer). x .line) (sym is) ∙ e)
     in
-    let same : judgeSource joined ≡ linesDown (length front) (compileAnswer file serial roomFile) = both ∙ ap (linesDown (length front)) (sym is) in
-    not-done joined serial room (rw same (rw (not-done file serial roomFile bad) bad)) ∙ same
+    let same : judgeSource joined ≡ linesDown (length front) (compileAnswer file serialFile roomFile) = both ∙ ap (linesDown (length front)) (sym is) in
+    not-done joined serial room (rw same (rw (not-done file serialFile roomFile bad) bad)) ∙ same
 
 pub the-first-refusal-decides : TheFirstRefusalDecides
 unfolding TheFirstRefusalDecides joinAll
-the-first-refusal-decides before file after serial roomFile room k short g e =
-    moved (joinedFiles (before ++ (file ∷ after))) file (joinAll (map linesOf before)) (joinAll (map linesOf after)) serial roomFile room k lines (good-lines before g) short e
-    ∙ ap (λ (n : ℕ). linesDown n (compileAnswer file serial roomFile)) (files-count before)
+the-first-refusal-decides before file after serialFile roomFile serial room k short g e =
+    moved (joinedFiles (before ++ (file ∷ after))) file (joinAll (map linesOf before)) (joinAll (map linesOf after)) serialFile roomFile serial room k lines (good-lines before g) short e
+    ∙ ap (λ (n : ℕ). linesDown n (compileAnswer file serialFile roomFile)) (files-count before)
   where
     lines : linesOf (joinedFiles (before ++ (file ∷ after))) ≡ joinAll (map linesOf before) ++ (linesOf file ++ joinAll (map linesOf after))
     lines = files-lines (before ++ (file ∷ after)) ∙ ap joinAll (map-append linesOf before (file ∷ after)) ∙ join-append (map linesOf before) (linesOf file ∷ map linesOf after)
 
 pub refusals-move : RefusalsMove
 unfolding RefusalsMove Accepted
-refusals-move a b serial roomB room k t short g e =
-    moved (a ++ b) b (linesOf a) [] serial roomB room k (rw (lines-append a b t, append-nil (linesOf b))) (g .1) short e
-    ∙ ap (λ (n : ℕ). linesDown n (compileAnswer b serial roomB)) (lines-count a t)
+refusals-move a b serialB roomB serial room k t short g e =
+    moved (a ++ b) b (linesOf a) [] serialB roomB serial room k (rw (lines-append a b t, append-nil (linesOf b))) (g .1) short e
+    ∙ ap (λ (n : ℕ). linesDown n (compileAnswer b serialB roomB)) (lines-count a t)

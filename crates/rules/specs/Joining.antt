@@ -2,7 +2,7 @@
 -- the same of the calls.
 use Prim.Native.Nat.{ℕ, suc, _+_, _≤_}
 use mathlib.Core.Path.{_≡_}
-use mathlib.Core.Bool.{Bool, true}
+use mathlib.Core.Bool.{Bool, true, _&&_}
 use mathlib.Core.List.{List, [], _∷_, _++_, map}
 use lib.ListN.{length}
 use lib.Dec.{T, eqb}
@@ -26,7 +26,7 @@ newlines source = length (keep (λ b. eqb b 10) source)
 -- ---- "For accepted sources A and B with the same default serial, A being empty or ending in byte 10 and the joined length being within the
 -- limit, the joined source is accepted, and its records are A's followed by B's."
 
--- with the sum of their sizes, and the bytes that compiling wrote, each time into room enough
+-- Also: their sizes add up, and the bytes written are A's followed by B's, each time with room enough.
 pub record Joined (a b : List ℕ) (serial : ℕ) : Type 0 where
   pub accepted : Accepted (a ++ b)
   pub records : sourceRecords serial (a ++ b) ≡ sourceRecords serial a ++ sourceRecords serial b
@@ -43,12 +43,13 @@ SourcesJoin =
 
 -- ---- "Any number joined, each but the last so ended, give their records in turn."
 
-abbrev pub EndedButLast : List (List ℕ) → Type 0
-EndedButLast [] = Unit {0}
-EndedButLast (s ∷ []) = Unit {0}
-EndedButLast (s ∷ t ∷ ss) = T (ended s) × EndedButLast (t ∷ ss)
+unfoldable pub endedButLast : List (List ℕ) → Bool
+endedButLast [] = true
+endedButLast (s ∷ []) = true
+endedButLast (s ∷ t ∷ ss) = ended s && endedButLast (t ∷ ss)
 
--- a source, whatever its bytes, that gives what several give in turn
+-- A source gives what several give in turn; it needn't be their bytes put together. The bytes of their records are what compiling each of them
+-- writes, with room enough.
 pub record InTurn (joined : List ℕ) (sources : List (List ℕ)) (serial : ℕ) : Type 0 where
   pub accepted : Accepted joined
   pub records : sourceRecords serial joined ≡ joinAll (map (sourceRecords serial) sources)
@@ -61,7 +62,7 @@ pub record InTurn (joined : List ℕ) (sources : List (List ℕ)) (serial : ℕ)
 unfoldable pub AnyNumberJoin : Type 0
 AnyNumberJoin =
     (sources : List (List ℕ)) (serial : ℕ)
-    → EndedButLast sources → length (joinAll sources) ≤ longestSource → Each Accepted sources → InTurn (joinAll sources) sources serial
+    → T (endedButLast sources) → length (joinAll sources) ≤ longestSource → Each Accepted sources → InTurn (joinAll sources) sources serial
 
 -- ---- "If A is good and B is refused at line k, the joined one is refused at k plus the number of byte 10s in A, with the same number, field
 -- and column."
@@ -70,16 +71,17 @@ AnyNumberJoin =
 unfoldable pub linesDown : ℕ → Answer → Answer
 linesDown n a = answer (a .fault) (a .line + n) (a .field) (a .bytes)
 
--- A refusal names a line or has line 0. Those of a line depend on no room, so each call may have its own.
+-- An answer that names a line, 02's k, is a refusal; here k is one less. A line's refusal depends neither on the room nor on the serial, so B has
+-- its own of each.
 -- Rules out: the line of B alone; lines counted otherwise than by byte 10.
 unfoldable pub RefusalsMove : Type 0
 RefusalsMove =
-    (a b : List ℕ) (serial roomB room k : ℕ)
-    → T (ended a) → length (a ++ b) ≤ longestSource → Accepted a → compileAnswer b serial roomB .line ≡ suc k
-    → compileAnswer (a ++ b) serial room ≡ linesDown (newlines a) (compileAnswer b serial roomB)
+    (a b : List ℕ) (serialB roomB serial room k : ℕ)
+    → T (ended a) → length (a ++ b) ≤ longestSource → Accepted a → compileAnswer b serialB roomB .line ≡ suc k
+    → compileAnswer (a ++ b) serial room ≡ linesDown (newlines a) (compileAnswer b serialB roomB)
 
--- ---- Files as they come: one in front of others that isn't so ended gets a byte 10. Its lines stay, so all that is said of it by itself does,
--- and of several the first that is refused decides, whatever stands behind it.
+-- ---- Files as they come: one in front of others that isn't so ended gets a byte 10. Its lines stay, so within the limit all that is said of it
+-- by itself does, and of several the first that is refused at a line decides, whatever stands behind it.
 
 unfoldable pub closed : List ℕ → List ℕ
 closed file = pick (ended file) file (file ++ (10 ∷ []))
@@ -89,10 +91,15 @@ joinedFiles [] = []
 joinedFiles (f ∷ []) = f
 joinedFiles (f ∷ g ∷ fs) = closed f ++ joinedFiles (g ∷ fs)
 
+-- Rules out: a byte added to the last file, or to one that is ended; bytes left out.
+unfoldable pub EndedFilesStay : Type 0
+EndedFilesStay = (files : List (List ℕ)) → T (endedButLast files) → joinedFiles files ≡ joinAll files
+
 -- Rules out: a last line that runs on into the next file; an empty line added.
 unfoldable pub ClosingKeepsTheLines : Type 0
 ClosingKeepsTheLines = (file : List ℕ) → T (ended (closed file)) × (linesOf (closed file) ≡ linesOf file)
 
+-- Rules out: files that are good by themselves and not together.
 unfoldable pub FilesJoin : Type 0
 FilesJoin =
     (files : List (List ℕ)) (serial : ℕ)
@@ -101,7 +108,7 @@ FilesJoin =
 -- Rules out: the last refused file named, or a file that only another one spoils.
 unfoldable pub TheFirstRefusalDecides : Type 0
 TheFirstRefusalDecides =
-    (before : List (List ℕ)) (file : List ℕ) (after : List (List ℕ)) (serial roomFile room k : ℕ)
-    → length (joinedFiles (before ++ (file ∷ after))) ≤ longestSource → Each Accepted before → compileAnswer file serial roomFile .line ≡ suc k
+    (before : List (List ℕ)) (file : List ℕ) (after : List (List ℕ)) (serialFile roomFile serial room k : ℕ)
+    → length (joinedFiles (before ++ (file ∷ after))) ≤ longestSource → Each Accepted before → compileAnswer file serialFile roomFile .line ≡ suc k
     → compileAnswer (joinedFiles (before ++ (file ∷ after))) serial room
-    ≡ linesDown (newlines (joinAll (map closed before))) (compileAnswer file serial roomFile)
+    ≡ linesDown (newlines (joinAll (map closed before))) (compileAnswer file serialFile roomFile)

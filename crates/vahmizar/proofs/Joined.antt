@@ -1,25 +1,28 @@
 -- Sources joined, over the calls.
 use mathlib.Core.Path.{_≡_, refl, sym, ap, _∙_, subst}
-use mathlib.Core.List.{List, [], _∷_, _++_, map, append-nil}
+use mathlib.Core.Bool.{not}
+use mathlib.Core.List.{List, [], _∷_, _++_, map}
 use Prim.Native.Nat.{ℕ, suc, _+_, _≤_}
 use native.Mathlib.Omega.{arith}
 use lib.ListN.{length, take}
+use lib.Dec.{T, eqb}
 use Rattle.rules.specs.declared.faults.Answer.{Answer}
+use Rattle.rules.specs.declared.faults.Fault.{Fault}
 use Rattle.rules.specs.Lists.{Each, total, joinAll}
 use Rattle.rules.specs.Bytes.{bytesOf}
-use Rattle.rules.specs.Answers.{faultNumber, numbersOf, longestSource, answer, sourceRecords, compileAnswer, compileOutput}
+use Rattle.rules.specs.Answers.{faultNumber, numbersOf, isDone, longestSource, answer, sourceRecords, compileAnswer, compileOutput}
 use Rattle.rules.specs.Demands.{Accepted, bytesNeeded, compiledBytes}
-use Rattle.rules.specs.Joining.{linesDown, InTurn, AnyNumberJoin, RefusalsMove, FilesJoin, TheFirstRefusalDecides}
+use Rattle.rules.specs.Joining.{linesDown, Joined, SourcesJoin, InTurn, AnyNumberJoin, RefusalsMove, FilesJoin, TheFirstRefusalDecides}
 use Rattle.rules.proofs.Tests.{pick-no}
 use Rattle.rules.proofs.Meaning.{written}
-use Rattle.rules.proofs.Joining.{named-not-done, any-number-join, refusals-move, files-join, the-first-refusal-decides}
+use Rattle.rules.proofs.Joining.{named-not-done, sources-join, any-number-join, refusals-move, files-join, the-first-refusal-decides}
 use Rattle.vahmizar.specs.Promises.{laid}
-use Rattle.vahmizar.specs.Joining.{Call, said, wrote, Roomy, Says, CallsJoin, CallsInTurn, RefusedFurtherDown, TheCallSays, TheCallsJoin, AnyNumberOfCallsJoin, TheCallsRefuseFurtherDown, TheFilesJoin, TheFirstRefusedFileDecides}
+use Rattle.vahmizar.specs.Joining.{Call, said, wrote, allCounted, allWrote, Roomy, Says, Done, RefusedFurtherDown, TheCallSays, TheCallsJoin, AnyNumberOfCallsJoin, TheCallsRefuseFurtherDown, TheFilesJoin, TheFirstRefusedFileDecides}
 use Rattle.vahmizar.proofs.Kept.{past, is-done}
 
 module _ {serial : ℕ} (x : Call serial) where
-  says : Says x
-  says = record {
+  say : Says x (said x)
+  say = record {
     first = past 32 (x .answer) _ _ _ (x .fits) (x .compiles .number);
     rest = past 32 (x .answer) _ _ _ (x .fits) (x .compiles .numbers);
   }
@@ -27,10 +30,13 @@ module _ {serial : ℕ} (x : Call serial) where
   left : x .out′ ≡ compileOutput (x .source) serial (x .out)
   left = past 32 (x .answer) _ _ _ (x .fits) (x .compiles .output)
 
-  -- a call that is done: its count and its bytes
+  -- a call with room enough: what it said, its count and its bytes
+  done-by : Accepted (x .source) → Roomy x → said x ≡ answer Fault.Done 0 0 (bytesNeeded serial (x .source))
+  done-by g room = is-done (x .source) serial (x .out) g room
+
   counts : Accepted (x .source) → Roomy x → said x .bytes ≡ bytesNeeded serial (x .source)
   unfolding answer
-  counts g room = ap (λ (a : Answer). a .bytes) (is-done (x .source) serial (x .out) g room)
+  counts g room = ap (λ (a : Answer). a .bytes) (done-by g room)
 
   writes : wrote x ≡ compiledBytes (x .source) serial (x .out)
   unfolding compiledBytes
@@ -41,7 +47,10 @@ module _ {serial : ℕ} (x : Call serial) where
 
 pub the-call-says : TheCallSays
 unfolding TheCallSays
-the-call-says serial x = says x
+the-call-says serial x = say x
+
+says-as : {serial : ℕ} (z : Call serial) (a : Answer) → said z ≡ a → Says z a
+says-as z a e = subst (Says z) e (say z)
 
 -- ---- records in turn
 
@@ -56,28 +65,33 @@ module _ {serial : ℕ} where
   each-accepted [] g = tt
   each-accepted (x ∷ xs) g = (g .0 .0, each-accepted xs (g .1))
 
-  counts-total : (xs : List (Call serial)) → Each Good xs → total (map (bytesNeeded serial) (map sourceIn xs)) ≡ total (map (λ x. said x .bytes) xs)
+  counts-total : (xs : List (Call serial)) → Each Good xs → total (map (bytesNeeded serial) (map sourceIn xs)) ≡ allCounted xs
   unfolding total
   counts-total [] g = refl
   counts-total (x ∷ xs) g = rw (counts x (g .0 .0) (g .0 .1), counts-total xs (g .1))
 
-  wrote-in-turn : (xs : List (Call serial)) → Each Good xs → joinAll (map (λ s. bytesOf (sourceRecords serial s)) (map sourceIn xs)) ≡ joinAll (map wrote xs)
+  wrote-in-turn : (xs : List (Call serial)) → Each Good xs → joinAll (map (λ s. bytesOf (sourceRecords serial s)) (map sourceIn xs)) ≡ allWrote xs
   unfolding joinAll
   wrote-in-turn [] g = refl
   wrote-in-turn (x ∷ xs) g = rw (wrote-records x (g .0 .0) (g .0 .1), wrote-in-turn xs (g .1))
 
-  -- what the joined source gives, from what each gives
-  in-turn : (xs : List (Call serial)) (z : Call serial) → InTurn (z .source) (map sourceIn xs) serial → Each Good xs → Roomy z → CallsInTurn xs z
-  unfolding answer
-  in-turn xs z t g room = record {
-    done = says z .first ∙ ap (λ (a : Answer). faultNumber (a .fault)) (is-done (z .source) serial (z .out) (t .accepted) room);
-    counted = counts z (t .accepted) room ∙ t .needed ∙ counts-total xs g;
-    bytes = writes z ∙ t .written (z .out) room ∙ wrote-in-turn xs g;
+  -- a call that is done, by the count and the bytes
+  done-so : (z : Call serial) (count : ℕ) (records : List ℕ) → Accepted (z .source) → Roomy z → bytesNeeded serial (z .source) ≡ count → wrote z ≡ records → Done z count records
+  done-so z count records g room c w = record {
+    says = says-as z (answer Fault.Done 0 0 count) (done-by z g room ∙ ap (answer Fault.Done 0 0) c);
+    bytes = ap (λ (n : ℕ). take n (z .out′)) (sym c ∙ sym (counts z g room)) ∙ w;
   }
+
+  -- what the joined source gives, from what each gives
+  in-turn : (xs : List (Call serial)) (z : Call serial) → InTurn (z .source) (map sourceIn xs) serial → Each Good xs → Roomy z
+      → Done z (allCounted xs) (allWrote xs)
+  in-turn xs z t g room =
+      done-so z _ _ (t .accepted) room (t .needed ∙ counts-total xs g) (writes z ∙ t .written (z .out) room ∙ wrote-in-turn xs g)
 
   -- the same where the joined source is put together from theirs
   in-turn-by : (xs : List (Call serial)) (z : Call serial) (joined : List ℕ) → z .source ≡ joined → length (z .source) ≤ longestSource
-      → (length joined ≤ longestSource → InTurn joined (map sourceIn xs) serial) → Each Good xs → Roomy z → CallsInTurn xs z
+      → (length joined ≤ longestSource → InTurn joined (map sourceIn xs) serial) → Each Good xs → Roomy z
+      → Done z (allCounted xs) (allWrote xs)
   in-turn-by xs z joined e short t g room =
       in-turn xs z (subst (λ (s : List ℕ). InTurn s (map sourceIn xs) serial) (sym e) (t (subst (λ (s : List ℕ). length s ≤ longestSource) e short))) g room
 
@@ -90,37 +104,50 @@ unfolding AnyNumberOfCallsJoin AnyNumberJoin
 any-number-of-calls-join serial xs z e t short g room = in-turn-by xs z _ e short (λ s. any-number-join (map sourceIn xs) serial t s (each-accepted xs g)) g room
 
 pub the-calls-join : TheCallsJoin
-unfolding TheCallsJoin AnyNumberOfCallsJoin joinAll total
-the-calls-join serial x y z e t short g h roomX roomY room =
-    let both : CallsInTurn (x ∷ y ∷ []) z =
-    any-number-of-calls-join serial (x ∷ y ∷ []) z (rw (append-nil (y .source)) e) (t, tt) short ((g, roomX), ((h, roomY), tt)) room
-    in
-    record {
-      done = both .done;
-      counted = omega (arith, both .counted);
-      bytes = both .bytes ∙ ap (λ (s : List ℕ). wrote x ++ s) (append-nil (wrote y));
-    }
+unfolding TheCallsJoin SourcesJoin
+the-calls-join serial x y z e t short g h roomX roomY room = done-so z _ _ (subst Accepted (sym e) (both .accepted)) room count bytes
+  where
+    both : Joined (x .source) (y .source) serial
+    both = sources-join (x .source) (y .source) serial t (subst (λ (s : List ℕ). length s ≤ longestSource) e short) g h
+
+    count : bytesNeeded serial (z .source) ≡ said x .bytes + said y .bytes
+    count = rw (e, counts x g roomX, counts y h roomY) (both .needed)
+
+    bytes : wrote z ≡ wrote x ++ wrote y
+    bytes = rw (writes z, writes x, writes y, e) (both .written (x .out) (y .out) (z .out) roomX roomY (subst (λ (s : List ℕ). bytesNeeded serial s ≤ length (z .out)) e room))
 
 -- ---- a refusal further down
 
-refused-so : {serial : ℕ} (n k : ℕ) (y z : Call serial) → said y .line ≡ suc k → said z ≡ linesDown n (said y) → RefusedFurtherDown n y z
-unfolding linesDown answer compileOutput
-refused-so {serial} n k y z e same = record {
-  number = says z .first ∙ ap (λ (a : Answer). faultNumber (a .fault)) same ∙ sym (says y .first);
-  answered = says z .rest ∙ ap (λ (a : Answer). laid (numbersOf a)) same;
-  stays = left z ∙ pick-no _ _ _ (named-not-done (z .source) serial (length (z .out)) (k + n) (ap (λ (a : Answer). a .line) same ∙ ap (λ (m : ℕ). m + n) e ∙ omega arith));
+-- a fault's number isn't 0
+not-zero : (f : Fault) → T (not (isDone f)) → faultNumber f ≡ 0 → ⊥
+unfolding isDone
+not-zero f t e = subst (λ (n : ℕ). T (not (eqb n 0))) e t
+
+refused-so : {serialY serial : ℕ} (n k : ℕ) (y : Call serialY) (z : Call serial) → said y .line ≡ suc k → said z ≡ linesDown n (said y) → RefusedFurtherDown n y z
+unfolding linesDown answer
+refused-so {serialY} {serial} n k y z e same = record {
+  refused = λ r. not-zero (said z .fault) bad (sym (say z .first) ∙ r);
+  number = say z .first ∙ ap (λ (a : Answer). faultNumber (a .fault)) same ∙ sym (say y .first);
+  says = says-as z (linesDown n (said y)) same;
+  stays = left z ∙ kept bad;
 }
+  where
+    bad : T (not (isDone (said z .fault)))
+    bad = named-not-done (z .source) serial (length (z .out)) (k + n) (ap (λ (a : Answer). a .line) same ∙ ap (λ (m : ℕ). m + n) e ∙ omega arith)
+
+    kept : T (not (isDone (said z .fault))) → compileOutput (z .source) serial (z .out) ≡ z .out
+    kept b = unfold compileOutput in pick-no _ _ _ b
 
 pub the-calls-refuse-further-down : TheCallsRefuseFurtherDown
 unfolding TheCallsRefuseFurtherDown RefusalsMove
-the-calls-refuse-further-down serial a y z k e t short g h =
+the-calls-refuse-further-down serialB serial a y z k e t short g h =
     refused-so _ k y z h
     (ap (λ (s : List ℕ). compileAnswer s serial (length (z .out))) e
-    ∙ refusals-move a (y .source) serial (length (y .out)) (length (z .out)) k t (subst (λ (s : List ℕ). length s ≤ longestSource) e short) g h)
+    ∙ refusals-move a (y .source) serialB (length (y .out)) serial (length (z .out)) k t (subst (λ (s : List ℕ). length s ≤ longestSource) e short) g h)
 
 pub the-first-refused-file-decides : TheFirstRefusedFileDecides
 unfolding TheFirstRefusedFileDecides TheFirstRefusalDecides
-the-first-refused-file-decides serial before y after z k e short g h =
+the-first-refused-file-decides serialY serial before y after z k e short g h =
     refused-so _ k y z h
     (ap (λ (s : List ℕ). compileAnswer s serial (length (z .out))) e
-    ∙ the-first-refusal-decides before (y .source) after serial (length (y .out)) (length (z .out)) k (subst (λ (s : List ℕ). length s ≤ longestSource) e short) g h)
+    ∙ the-first-refusal-decides before (y .source) after serialY (length (y .out)) serial (length (z .out)) k (subst (λ (s : List ℕ). length s ≤ longestSource) e short) g h)
