@@ -3,7 +3,7 @@ use mathlib.Core.Path.{_≡_, refl, sym, ap, _∙_}
 use Prim.Native.Nat.{ℕ, suc, _+_, _≤_}
 use native.Mathlib.Omega.{arith}
 use mathlib.Core.Bool.{Bool, true, false, not}
-use mathlib.Core.List.{List, [], _∷_, _++_, map, map-append, append-assoc, append-nil}
+use mathlib.Core.List.{List, [], _∷_, _++_, map, map-append, append-nil}
 use lib.ListN.{length}
 use lib.Dec.{T}
 use lib.Arith.{le→nltb}
@@ -13,8 +13,8 @@ use Rattle.rules.specs.Kinds.{linesOf}
 use Rattle.rules.specs.Records.{Record}
 use Rattle.rules.specs.Bytes.{encode, sizeOfAll, bytesOf}
 use Rattle.rules.specs.Answers.{isDone, isGood, lineRecords, lineFault, longestSource, sourceRecords, answer, judgeLines, judgeSource, ifRoom, compileAnswer}
-use Rattle.rules.specs.Demands.{Accepted, bytesNeeded, compiledBytes, CompilingRefusesExactly}
-use Rattle.rules.specs.Joining.{ended, newlines, Joined, SourcesJoin, InTurn, AnyNumberJoin, linesDown, RefusalsMove, closed, joinedFiles, FilesJoin, TheFirstRefusalDecides}
+use Rattle.rules.specs.Demands.{Accepted, bytesNeeded, CompilingRefusesExactly}
+use Rattle.rules.specs.Joining.{Joined, SourcesJoin, InTurn, AnyNumberJoin, linesDown, RefusalsMove, joinedFiles, FilesJoin, TheFirstRefusalDecides}
 use Rattle.rules.proofs.Tests.{pick-ok, pick-yes, pick-no, and-l, and-r}
 use Rattle.rules.proofs.Lists.{all-append, all-of, all-true, join-append}
 use Rattle.rules.proofs.Refusals.{refuses-exactly}

@@ -10,13 +10,12 @@ use Rattle.rules.specs.declared.faults.Answer.{Answer}
 use Rattle.rules.specs.declared.faults.Fault.{Fault}
 use Rattle.rules.specs.Lists.{Each, total, joinAll}
 use Rattle.rules.specs.Bytes.{bytesOf}
-use Rattle.rules.specs.Answers.{faultNumber, numbersOf, isDone, longestSource, answer, sourceRecords, compileAnswer, compileOutput}
+use Rattle.rules.specs.Answers.{faultNumber, isDone, longestSource, answer, sourceRecords, compileAnswer, compileOutput}
 use Rattle.rules.specs.Demands.{Accepted, bytesNeeded, compiledBytes}
 use Rattle.rules.specs.Joining.{linesDown, Joined, SourcesJoin, InTurn, AnyNumberJoin, RefusalsMove, FilesJoin, TheFirstRefusalDecides}
 use Rattle.rules.proofs.Tests.{pick-no}
 use Rattle.rules.proofs.Meaning.{written}
 use Rattle.rules.proofs.Joining.{named-not-done, sources-join, any-number-join, refusals-move, files-join, the-first-refusal-decides}
-use Rattle.vahmizar.specs.Promises.{laid}
 use Rattle.vahmizar.specs.Joining.{Call, said, wrote, allCounted, allWrote, Roomy, Says, Done, RefusedFurtherDown, TheCallSays, TheCallsJoin, AnyNumberOfCallsJoin, TheCallsRefuseFurtherDown, TheFilesJoin, TheFirstRefusedFileDecides}
 use Rattle.vahmizar.proofs.Kept.{past, is-done}
 
@@ -49,6 +48,10 @@ pub the-call-says : TheCallSays
 unfolding TheCallSays
 the-call-says serial x = say x
 
+-- within the limit, by its bytes
+within : {joined source : List ℕ} → source ≡ joined → length source ≤ longestSource → length joined ≤ longestSource
+within e short = subst (λ (s : List ℕ). length s ≤ longestSource) e short
+
 says-as : {serial : ℕ} (z : Call serial) (a : Answer) → said z ≡ a → Says z a
 says-as z a e = subst (Says z) e (say z)
 
@@ -65,35 +68,40 @@ module _ {serial : ℕ} where
   each-accepted [] g = tt
   each-accepted (x ∷ xs) g = (g .0 .0, each-accepted xs (g .1))
 
-  counts-total : (xs : List (Call serial)) → Each Good xs → total (map (bytesNeeded serial) (map sourceIn xs)) ≡ allCounted xs
+  counts-total : (xs : List (Call serial)) → Each Good xs
+      → total (map (bytesNeeded serial) (map sourceIn xs)) ≡ allCounted xs
   unfolding total
   counts-total [] g = refl
   counts-total (x ∷ xs) g = rw (counts x (g .0 .0) (g .0 .1), counts-total xs (g .1))
 
-  wrote-in-turn : (xs : List (Call serial)) → Each Good xs → joinAll (map (λ s. bytesOf (sourceRecords serial s)) (map sourceIn xs)) ≡ allWrote xs
+  wrote-in-turn : (xs : List (Call serial)) → Each Good xs
+      → joinAll (map (λ s. bytesOf (sourceRecords serial s)) (map sourceIn xs)) ≡ allWrote xs
   unfolding joinAll
   wrote-in-turn [] g = refl
   wrote-in-turn (x ∷ xs) g = rw (wrote-records x (g .0 .0) (g .0 .1), wrote-in-turn xs (g .1))
 
   -- a call that is done, by the count and the bytes
-  done-so : (z : Call serial) (count : ℕ) (records : List ℕ) → Accepted (z .source) → Roomy z → bytesNeeded serial (z .source) ≡ count → wrote z ≡ records → Done z count records
+  done-so : (z : Call serial) (count : ℕ) (records : List ℕ) → Accepted (z .source) → Roomy z
+      → bytesNeeded serial (z .source) ≡ count → wrote z ≡ records → Done z count records
   done-so z count records g room c w = record {
     says = says-as z (answer Fault.Done 0 0 count) (done-by z g room ∙ ap (answer Fault.Done 0 0) c);
     bytes = ap (λ (n : ℕ). take n (z .out′)) (sym c ∙ sym (counts z g room)) ∙ w;
   }
 
   -- what the joined source gives, from what each gives
-  in-turn : (xs : List (Call serial)) (z : Call serial) → InTurn (z .source) (map sourceIn xs) serial → Each Good xs → Roomy z
-      → Done z (allCounted xs) (allWrote xs)
+  in-turn : (xs : List (Call serial)) (z : Call serial) → InTurn (z .source) (map sourceIn xs) serial
+      → Each Good xs → Roomy z → Done z (allCounted xs) (allWrote xs)
   in-turn xs z t g room =
       done-so z _ _ (t .accepted) room (t .needed ∙ counts-total xs g) (writes z ∙ t .written (z .out) room ∙ wrote-in-turn xs g)
 
   -- the same where the joined source is put together from theirs
-  in-turn-by : (xs : List (Call serial)) (z : Call serial) (joined : List ℕ) → z .source ≡ joined → length (z .source) ≤ longestSource
+  in-turn-by : (xs : List (Call serial)) (z : Call serial) (joined : List ℕ)
+      → z .source ≡ joined → length (z .source) ≤ longestSource
       → (length joined ≤ longestSource → InTurn joined (map sourceIn xs) serial) → Each Good xs → Roomy z
       → Done z (allCounted xs) (allWrote xs)
   in-turn-by xs z joined e short t g room =
-      in-turn xs z (subst (λ (s : List ℕ). InTurn s (map sourceIn xs) serial) (sym e) (t (subst (λ (s : List ℕ). length s ≤ longestSource) e short))) g room
+      let inside : InTurn joined (map sourceIn xs) serial = t (within e short) in
+      in-turn xs z (subst (λ (s : List ℕ). InTurn s (map sourceIn xs) serial) (sym e) inside) g room
 
 pub the-files-join : TheFilesJoin
 unfolding TheFilesJoin FilesJoin
@@ -108,13 +116,15 @@ unfolding TheCallsJoin SourcesJoin
 the-calls-join serial x y z e t short g h roomX roomY room = done-so z _ _ (subst Accepted (sym e) (both .accepted)) room count bytes
   where
     both : Joined (x .source) (y .source) serial
-    both = sources-join (x .source) (y .source) serial t (subst (λ (s : List ℕ). length s ≤ longestSource) e short) g h
+    both = sources-join (x .source) (y .source) serial t (within e short) g h
 
     count : bytesNeeded serial (z .source) ≡ said x .bytes + said y .bytes
     count = rw (e, counts x g roomX, counts y h roomY) (both .needed)
 
     bytes : wrote z ≡ wrote x ++ wrote y
-    bytes = rw (writes z, writes x, writes y, e) (both .written (x .out) (y .out) (z .out) roomX roomY (subst (λ (s : List ℕ). bytesNeeded serial s ≤ length (z .out)) e room))
+    bytes =
+        let enough : bytesNeeded serial (x .source ++ y .source) ≤ length (z .out) = rw e at room in
+        rw (writes z, writes x, writes y, e) (both .written (x .out) (y .out) (z .out) roomX roomY enough)
 
 -- ---- a refusal further down
 
@@ -123,7 +133,8 @@ not-zero : (f : Fault) → T (not (isDone f)) → faultNumber f ≡ 0 → ⊥
 unfolding isDone
 not-zero f t e = subst (λ (n : ℕ). T (not (eqb n 0))) e t
 
-refused-so : {serialY serial : ℕ} (n k : ℕ) (y : Call serialY) (z : Call serial) → said y .line ≡ suc k → said z ≡ linesDown n (said y) → RefusedFurtherDown n y z
+refused-so : {serialY serial : ℕ} (n k : ℕ) (y : Call serialY) (z : Call serial) → said y .line ≡ suc k
+    → said z ≡ linesDown n (said y) → RefusedFurtherDown n y z
 unfolding linesDown answer
 refused-so {serialY} {serial} n k y z e same = record {
   refused = λ r. not-zero (said z .fault) bad (sym (say z .first) ∙ r);
@@ -133,7 +144,9 @@ refused-so {serialY} {serial} n k y z e same = record {
 }
   where
     bad : T (not (isDone (said z .fault)))
-    bad = named-not-done (z .source) serial (length (z .out)) (k + n) (ap (λ (a : Answer). a .line) same ∙ ap (λ (m : ℕ). m + n) e ∙ omega arith)
+    bad =
+        let line : said z .line ≡ suc (k + n) = ap (λ (a : Answer). a .line) same ∙ ap (λ (m : ℕ). m + n) e ∙ omega arith in
+        named-not-done (z .source) serial (length (z .out)) (k + n) line
 
     kept : T (not (isDone (said z .fault))) → compileOutput (z .source) serial (z .out) ≡ z .out
     kept b = unfold compileOutput in pick-no _ _ _ b
@@ -143,11 +156,11 @@ unfolding TheCallsRefuseFurtherDown RefusalsMove
 the-calls-refuse-further-down serialB serial a y z k e t short g h =
     refused-so _ k y z h
     (ap (λ (s : List ℕ). compileAnswer s serial (length (z .out))) e
-    ∙ refusals-move a (y .source) serialB (length (y .out)) serial (length (z .out)) k t (subst (λ (s : List ℕ). length s ≤ longestSource) e short) g h)
+    ∙ refusals-move a (y .source) serialB (length (y .out)) serial (length (z .out)) k t (within e short) g h)
 
 pub the-first-refused-file-decides : TheFirstRefusedFileDecides
 unfolding TheFirstRefusedFileDecides TheFirstRefusalDecides
 the-first-refused-file-decides serialY serial before y after z k e short g h =
     refused-so _ k y z h
     (ap (λ (s : List ℕ). compileAnswer s serial (length (z .out))) e
-    ∙ the-first-refusal-decides before (y .source) after serialY (length (y .out)) serial (length (z .out)) k (subst (λ (s : List ℕ). length s ≤ longestSource) e short) g h)
+    ∙ the-first-refusal-decides before (y .source) after serialY (length (y .out)) serial (length (z .out)) k (within e short) g h)

@@ -1,5 +1,6 @@
--- 02, W7, "for the compiler that exists": what calls of tinydns_compile on several sources and on the joined one have to do with each other. It
--- follows from `Compiles`, so from what each call promises by itself. The definitions are those of `rules`, with the statements about sources.
+-- 02, W7, "for the compiler that exists": what calls of tinydns_compile on several sources and on the joined one have
+-- to do with each other. It follows from `Compiles`, so from what each call promises by itself. The definitions are
+-- those of `rules`, with the statements about sources.
 use Prim.Native.Nat.{ℕ, suc, _+_, _≤_}
 use mathlib.Core.Path.{_≡_}
 use mathlib.Core.List.{List, _∷_, _++_, map}
@@ -13,7 +14,8 @@ use Rattle.rules.specs.Demands.{Accepted, bytesNeeded}
 use Rattle.rules.specs.Joining.{ended, newlines, endedButLast, linesDown, closed, joinedFiles}
 use Rattle.vahmizar.specs.Promises.{laid, Compiles}
 
--- a call of tinydns_compile, whose answer's slice has the right length: all that went in, all that came out, and its promise
+-- a call of tinydns_compile, whose answer's slice has the right length: all that went in, all that came out, and its
+-- promise
 pub record Call (serial : ℕ) : Type 0 where
   pub source : List ℕ
   pub out : List ℕ
@@ -54,7 +56,8 @@ module _ {serial : ℕ} where
     pub says : Says z (answer Fault.Done 0 0 count)
     pub bytes : take count (z .out′) ≡ records
 
--- z is refused as y is, which is refused at a line: with the same numbers but a line so many lines further down; its buffer stays
+-- z is refused as y is, which is refused at a line: with the same numbers but a line so many lines further down; its
+-- buffer stays
 pub record RefusedFurtherDown {serialY serial : ℕ} (lines : ℕ) (y : Call serialY) (z : Call serial) : Type 0 where
   pub refused : z .r ≡ 0 → ⊥
   pub number : z .r ≡ y .r
@@ -65,8 +68,8 @@ pub record RefusedFurtherDown {serialY serial : ℕ} (lines : ℕ) (y : Call ser
 unfoldable pub TheCallSays : Type 0
 TheCallSays = (serial : ℕ) (x : Call serial) → Says x (said x)
 
--- "For accepted sources A and B with the same default serial, A being empty or ending in byte 10 and the joined length being within the limit,
--- the joined source is accepted, and its records are A's followed by B's."
+-- "For accepted sources A and B with the same default serial, A being empty or ending in byte 10 and the joined
+-- length being within the limit, the joined source is accepted, and its records are A's followed by B's."
 -- Rules out: a compiler that carries something over from one line to the next.
 unfoldable pub TheCallsJoin : Type 0
 TheCallsJoin =
@@ -93,8 +96,8 @@ AnyNumberOfCallsJoin =
     → Roomy z
     → Done z (allCounted xs) (allWrote xs)
 
--- "If A is good and B is refused at line k, the joined one is refused at k plus the number of byte 10s in A, with the same number, field and
--- column."
+-- "If A is good and B is refused at line k, the joined one is refused at k plus the number of byte 10s in A, with the
+-- same number, field and column."
 -- 02's k is suc k here. B's call may have a serial of its own: a line's refusal doesn't depend on it.
 -- Rules out: the line of B alone; a line that is bad only because of what stands above it.
 unfoldable pub TheCallsRefuseFurtherDown : Type 0
@@ -107,7 +110,8 @@ TheCallsRefuseFurtherDown =
     → said y .line ≡ suc k
     → RefusedFurtherDown (newlines a) y z
 
--- The same of files as they come, each compiled by a call of its own: the command writes what these calls wrote, one behind the other.
+-- The same of files as they come, each compiled by a call of its own: the command writes what these calls wrote, one
+-- behind the other.
 -- Rules out: a file that spoils another, or whose last line runs on.
 unfoldable pub TheFilesJoin : Type 0
 TheFilesJoin =
@@ -118,7 +122,8 @@ TheFilesJoin =
     → Roomy z
     → Done z (allCounted xs) (allWrote xs)
 
--- Of each refused file the command says what its own call said; of the first the joined source would say the same, further down.
+-- Of each refused file the command says what its own call said; of the first the joined source would say the same,
+-- further down.
 -- Rules out: the last refused file named; a file that is refused only together with others.
 unfoldable pub TheFirstRefusedFileDecides : Type 0
 TheFirstRefusedFileDecides =
