@@ -5,7 +5,7 @@ use std::process::ExitCode;
 
 use compare::reading::Reading;
 use compare::tally::Tally;
-use compare::{cases, edges, reading};
+use compare::{cases, edges, joins, reading};
 
 const MUTANTS: &[Reading] = copies::each!(reading);
 const SEED: u64 = 1;
@@ -39,7 +39,7 @@ fn first_sight(mutant: &Reading) -> Option<String> {
             return Some(format!("case {case}"));
         }
     }
-    edges::run(mutant, &mut tally)
-        .is_err()
-        .then(|| "a fixed source".to_owned())
+    let fixed = [edges::run, joins::run];
+    let seen = fixed.iter().any(|run| run(mutant, &mut tally).is_err());
+    seen.then(|| "a fixed source".to_owned())
 }
