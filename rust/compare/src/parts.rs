@@ -13,6 +13,10 @@ pub fn several(random: &mut Random) -> Vec<Vec<u8>> {
         return pieces(&one(random), count, random);
     }
     let mut parts: Vec<_> = (0..count).map(|_| one(random)).collect();
+    if random.once_in(12) {
+        // The same lines once more.
+        parts[count - 1] = parts[random.below(count - 1)].clone();
+    }
     let (last, before) = parts.split_last_mut().expect("two parts or more");
     before.iter_mut().for_each(close);
     if random.once_in(2) {
