@@ -29,8 +29,8 @@ pub fn several(random: &mut Random) -> Vec<Vec<u8>> {
     parts
 }
 
-/// Whether W7 speaks of these parts: each but the last is empty or ends in
-/// byte 10.
+/// Whether each part but the last is empty or ends in byte 10, so that every
+/// line stands in one part.
 pub fn are_ended(parts: &[&[u8]]) -> bool {
     let before = &parts[..parts.len().saturating_sub(1)];
     let mut lasts = before.iter().filter_map(|part| part.last());

@@ -33,6 +33,11 @@ pub type Meant = Result<(u64, Vec<Given>), u64>;
 /// Compiles a source with a serial into a buffer and gives the numbers.
 pub type Compile<'a> = &'a dyn Fn(&[u8], u32, &mut [u8]) -> [u64; 4];
 
+/// Tells what parts answer as one source with a serial, and what it writes
+/// into a buffer, from what each is answered by itself; `None` where a part
+/// before the last isn't ended.
+pub type FromParts = fn(Compile<'_>, &[&[u8]], u32, &mut [u8]) -> Option<[u64; 4]>;
+
 /// A second implementation, or an edited copy of it.
 #[derive(Clone, Copy)]
 pub struct Reading {
@@ -40,9 +45,8 @@ pub struct Reading {
     pub name: &'static str,
     /// Compiles a source.
     pub compile: fn(&[u8], u32, &mut [u8]) -> [u64; 4],
-    /// Tells what parts answer as one source from what each is answered by
-    /// itself; `None` where a part before the last isn't ended.
-    pub joined: fn(Compile<'_>, &[&[u8]], u32, &mut [u8]) -> Option<[u64; 4]>,
+    /// Tells of a joined source.
+    pub joined: FromParts,
     /// Asks for the record at an ordinal: lays the answer into the slice and
     /// returns what the call must.
     pub ask: fn(&[u8], &Asked, u64, &mut [u8]) -> u64,
