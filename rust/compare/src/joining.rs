@@ -88,12 +88,12 @@ impl Join<'_> {
     fn told_by_library(&mut self) -> Checked {
         let (reading, parts, serial) = (self.reading, self.parts, self.serial);
         let wanted = |out: &mut [u8]| (reading.joined)(&library, parts, serial, out);
-        let Some([_, _, _, needed]) = wanted(&mut []) else {
+        let Some(numbers) = wanted(&mut []) else {
             return Ok(());
         };
         let wanted = |out: &mut [u8]| wanted(out).unwrap_or_default();
         let name = "the library's own answers for the parts";
-        let room = self.room(needed);
+        let room = self.room(numbers);
         self.call(self.whole, &wanted, name).room(room).map(drop)
     }
 
@@ -106,18 +106,19 @@ impl Join<'_> {
         }
         let serial = self.serial;
         let wanted = |out: &mut [u8]| library(open, serial, out);
-        let [_, _, _, needed] = wanted(&mut []);
         let name = "the library's own answer without the byte 10 at the end";
-        let room = self.room(needed);
+        let room = self.room(wanted(&mut []));
         self.call(&closed, &wanted, name).room(room).map(drop)
     }
 
-    /// A size of room: so much, or less.
-    fn room(&mut self, needed: u64) -> usize {
+    /// A size of room for a source that answers so without any: what it needs
+    /// or less, and any for a bad one.
+    fn room(&mut self, [number, _, _, needed]: [u64; 4]) -> usize {
         let needed = needed as usize;
-        match self.random.below(3) {
-            0 => self.random.below(needed + 1),
-            _ => needed,
+        match number {
+            0 | 13 if self.random.once_in(3) => self.random.below(needed + 1),
+            0 | 13 => needed,
+            _ => self.random.below(600),
         }
     }
 
