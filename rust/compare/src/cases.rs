@@ -47,15 +47,7 @@ pub fn run(reading: &Reading, seed: u64, case: u64, tally: &mut Tally) -> Checke
                 family.question(random)
             })
         }
-        21..=23 => {
-            let family = Family::of_any_bytes(random);
-            let zones = zones::stream(&family, random);
-            for _ in 0..QUESTIONS {
-                let asked = family.question(random);
-                asking::check(reading, &zones, &asked, random, tally)?;
-            }
-            Ok(())
-        }
+        21..=23 => zone_stream(reading, random, tally),
         _ => joined(reading, &parts::several(random), random, tally),
     }
 }
@@ -135,6 +127,17 @@ pub fn stream(
     for _ in 0..QUESTIONS {
         let asked = questions::about(records, random);
         asking::check(reading, records, &asked, random, tally)?;
+    }
+    Ok(())
+}
+
+/// Compares asking over record bytes of zones.
+fn zone_stream(reading: &Reading, random: &mut Random, tally: &mut Tally) -> Checked {
+    let family = Family::of_any_bytes(random);
+    let zones = zones::stream(&family, random);
+    for _ in 0..QUESTIONS {
+        let asked = family.question(random);
+        asking::check(reading, &zones, &asked, random, tally)?;
     }
     Ok(())
 }
