@@ -66,7 +66,7 @@ macro_rules! reading {
                     let [number, line, field, bytes] = compile(part, serial, out);
                     $($module)::+::CompileAnswer { number, line, field, bytes }
                 };
-                let answer = $($module)::+::joined(parts, serial, out, compile)?;
+                let answer = $($module)::+::joined(parts, serial, out, &compile)?;
                 Some(answer.numbers())
             },
             ask: |records, asked, ordinal, answer| {

@@ -5,6 +5,9 @@
 use crate::compile::CompileAnswer;
 use crate::source::LONGEST_SOURCE;
 
+/// Compiles a part with a serial into a buffer.
+pub type Compile<'a> = &'a dyn Fn(&[u8], u32, &mut [u8]) -> CompileAnswer;
+
 /// What the joined source answers and writes into `out`, by what `compile`
 /// answers for each part. `None` where a part before the last isn't ended: its
 /// last line goes on in the next part, and the parts say nothing of the whole.
@@ -12,7 +15,7 @@ pub fn joined(
     parts: &[&[u8]],
     serial: u32,
     out: &mut [u8],
-    compile: impl Fn(&[u8], u32, &mut [u8]) -> CompileAnswer,
+    compile: Compile<'_>,
 ) -> Option<CompileAnswer> {
     let before_the_last = parts.split_last().map_or(parts, |(_, before)| before);
     if !before_the_last.iter().all(|part| is_ended(part)) {
@@ -39,11 +42,7 @@ fn is_ended(part: &[u8]) -> bool {
 
 /// The records of the parts, one part's behind the other's, or the refusal of
 /// the first part that is refused, at its line in the whole.
-fn in_turn(
-    parts: &[&[u8]],
-    serial: u32,
-    compile: impl Fn(&[u8], u32, &mut [u8]) -> CompileAnswer,
-) -> Result<Vec<u8>, CompileAnswer> {
+fn in_turn(parts: &[&[u8]], serial: u32, compile: Compile<'_>) -> Result<Vec<u8>, CompileAnswer> {
     let mut records = Vec::new();
     let mut lines_before = 0;
     for part in parts {

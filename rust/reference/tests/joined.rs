@@ -12,7 +12,7 @@ const BEFORE: u8 = 0x55;
 /// Numbers and buffer of the whole, told from its parts.
 fn from_parts(parts: &[&[u8]], room: usize) -> Option<([u64; 4], Vec<u8>)> {
     let mut out = vec![BEFORE; room];
-    let answer = reference::joined(parts, SERIAL, &mut out, reference::compile)?;
+    let answer = reference::joined(parts, SERIAL, &mut out, &reference::compile)?;
     Some((answer.numbers(), out))
 }
 
