@@ -6,16 +6,18 @@ use crate::lines::Mood;
 use crate::random::Random;
 use crate::reading::{Asked, Reading};
 use crate::tally::Tally;
-use crate::{asking, compiling, hostile, meaning, questions, sources, zones};
+use crate::{asking, compiling, hostile, joining, meaning, parts, questions, sources, zones};
 
 /// Questions put to each source or stream.
 const QUESTIONS: usize = 4;
+/// Questions put to each joined source, which is longer than others.
+const QUESTIONS_OF_JOINED: usize = 2;
 
 /// Makes a case and compares all of it.
 pub fn run(reading: &Reading, seed: u64, case: u64, tally: &mut Tally) -> Checked {
     let mut random = Random::of_case(seed, case);
     let random = &mut random;
-    match case % 24 {
+    match case % 26 {
         0..=2 => {
             let good = sources::of_lines(Mood::Good, random);
             source(reading, &good, random, tally)
@@ -45,15 +47,8 @@ pub fn run(reading: &Reading, seed: u64, case: u64, tally: &mut Tally) -> Checke
                 family.question(random)
             })
         }
-        _ => {
-            let family = Family::of_any_bytes(random);
-            let zones = zones::stream(&family, random);
-            for _ in 0..QUESTIONS {
-                let asked = family.question(random);
-                asking::check(reading, &zones, &asked, random, tally)?;
-            }
-            Ok(())
-        }
+        21..=23 => zone_stream(reading, random, tally),
+        _ => joined(reading, &parts::several(random), random, tally),
     }
 }
 
@@ -71,19 +66,49 @@ fn source_asked(
     tally: &mut Tally,
     question: impl Fn(&[u8], &mut Random) -> Asked,
 ) -> Checked {
-    let serial = match random.below(4) {
-        0 => 0,
-        1 => u32::MAX,
-        _ => random.number() as u32,
-    };
+    let serial = serial(random);
     let Some(records) = compiling::check(reading, source, serial, random, tally)? else {
         return Ok(());
     };
     let asked: Vec<Asked> = (0..QUESTIONS).map(|_| question(&records, random)).collect();
-    let meant = (reading.meaning)(source, serial, &asked);
+    answers(reading, (source, serial), &records, &asked, random, tally)
+}
+
+/// Compares sources joined: compiling them as one, asking what they became,
+/// and the meaning of all their lines.
+fn joined(reading: &Reading, parts: &[Vec<u8>], random: &mut Random, tally: &mut Tally) -> Checked {
+    let serial = serial(random);
+    let parts: Vec<&[u8]> = parts.iter().map(Vec::as_slice).collect();
+    let Some(records) = joining::check(reading, &parts, serial, random, tally)? else {
+        return Ok(());
+    };
+    let question = |_| questions::about(&records, random);
+    let asked: Vec<Asked> = (0..QUESTIONS_OF_JOINED).map(question).collect();
+    let whole = parts.concat();
+    answers(reading, (&whole, serial), &records, &asked, random, tally)
+}
+
+fn serial(random: &mut Random) -> u32 {
+    match random.below(4) {
+        0 => 0,
+        1 => u32::MAX,
+        _ => random.number() as u32,
+    }
+}
+
+/// Compares the answers to questions over what a source with its serial became.
+fn answers(
+    reading: &Reading,
+    (source, serial): (&[u8], u32),
+    records: &[u8],
+    asked: &[Asked],
+    random: &mut Random,
+    tally: &mut Tally,
+) -> Checked {
+    let meant = (reading.meaning)(source, serial, asked);
     for (asked, meant) in asked.iter().zip(&meant) {
-        let told = asking::check(reading, &records, asked, random, tally)?;
-        let held = meaning::check(reading, &records, asked, &told, meant, tally);
+        let told = asking::check(reading, records, asked, random, tally)?;
+        let held = meaning::check(reading, records, asked, &told, meant, tally);
         held.map_err(|Difference(words)| {
             let source = literal(source);
             Difference(format!("{words}\n  source: {source}\n  serial: {serial}"))
@@ -102,6 +127,17 @@ pub fn stream(
     for _ in 0..QUESTIONS {
         let asked = questions::about(records, random);
         asking::check(reading, records, &asked, random, tally)?;
+    }
+    Ok(())
+}
+
+/// Compares asking over record bytes of zones.
+fn zone_stream(reading: &Reading, random: &mut Random, tally: &mut Tally) -> Checked {
+    let family = Family::of_any_bytes(random);
+    let zones = zones::stream(&family, random);
+    for _ in 0..QUESTIONS {
+        let asked = family.question(random);
+        asking::check(reading, &zones, &asked, random, tally)?;
     }
     Ok(())
 }

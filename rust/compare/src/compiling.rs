@@ -20,44 +20,59 @@ pub fn check(
     random: &mut Random,
     tally: &mut Tally,
 ) -> Checked<Option<Vec<u8>>> {
-    let [number, _, _, needed] = (reading.compile)(source, serial, &mut []);
-    let needed = needed as usize;
     let mut call = Call {
-        reading,
         source,
         serial,
+        wanted: &|out| (reading.compile)(source, serial, out),
+        name: reading.name,
         random,
         tally,
     };
-    if call.random.once_in(8) {
-        let length = call.random.pick(&WRONG_LENGTHS);
-        call.wrong_answer(needed, length)?;
-    }
-    if !matches!(number, 0 | 13) {
-        let room = call.random.below(600);
-        call.room(room)?;
-        call.room(0)?;
-        return Ok(None);
-    }
-    let less = call.random.below(needed + 1);
-    let more = needed + call.random.within(1, 100);
-    for room in [0, needed.saturating_sub(1), less, more] {
-        call.room(room)?;
-    }
-    call.room(needed).map(Some)
+    call.rooms()
 }
 
-struct Call<'a> {
-    reading: &'a Reading,
-    source: &'a [u8],
-    serial: u32,
-    random: &'a mut Random,
-    tally: &'a mut Tally,
+/// Calls of the library with a source, and what they are compared with.
+pub struct Call<'a> {
+    /// The source.
+    pub source: &'a [u8],
+    /// Its default serial.
+    pub serial: u32,
+    /// What compiling must write into a buffer, and its numbers.
+    pub wanted: &'a dyn Fn(&mut [u8]) -> [u64; 4],
+    /// Who wants it.
+    pub name: &'a str,
+    /// Where sizes and guards come from.
+    pub random: &'a mut Random,
+    /// What was seen.
+    pub tally: &'a mut Tally,
 }
 
 impl Call<'_> {
+    /// Compares calls with several sizes of room. Returns the record bytes of
+    /// an accepted source.
+    pub fn rooms(&mut self) -> Checked<Option<Vec<u8>>> {
+        let [number, _, _, needed] = (self.wanted)(&mut []);
+        let needed = needed as usize;
+        if self.random.once_in(8) {
+            let length = self.random.pick(&WRONG_LENGTHS);
+            self.wrong_answer(needed, length)?;
+        }
+        if !matches!(number, 0 | 13) {
+            let room = self.random.below(600);
+            self.room(room)?;
+            self.room(0)?;
+            return Ok(None);
+        }
+        let less = self.random.below(needed + 1);
+        let more = needed + self.random.within(1, 100);
+        for room in [0, needed.saturating_sub(1), less, more] {
+            self.room(room)?;
+        }
+        self.room(needed).map(Some)
+    }
+
     /// Compares one call. Returns what stands in the buffer behind it.
-    fn room(&mut self, room: usize) -> Checked<Vec<u8>> {
+    pub fn room(&mut self, room: usize) -> Checked<Vec<u8>> {
         let source = Guarded::holding(self.source, self.random);
         let before = Guarded::new(room, self.random);
         let mut out = before.clone();
@@ -72,7 +87,7 @@ impl Call<'_> {
         self.tally.compiled(returned);
 
         let mut wanted_out = before.clone();
-        let numbers = (self.reading.compile)(self.source, self.serial, wanted_out.inner_mut());
+        let numbers = (self.wanted)(wanted_out.inner_mut());
         let places = wanted_answer.inner_mut().chunks_exact_mut(8);
         for (place, number) in places.zip(numbers) {
             place.copy_from_slice(&number.to_le_bytes());
@@ -129,7 +144,7 @@ impl Call<'_> {
             "compile: {words}\n  source: {}\n  serial: {}, room: {room}, compared with {}",
             literal(self.source),
             self.serial,
-            self.reading.name
+            self.name
         ))
     }
 }

@@ -137,7 +137,7 @@ fn odd(random: &mut Random) -> Vec<u8> {
 }
 
 /// A line of a length at the limit.
-fn of_length(random: &mut Random) -> Vec<u8> {
+pub fn of_length(random: &mut Random) -> Vec<u8> {
     let length = random.pick(&[1022, 1023, 1024, 1025, 1026, 2000]);
     let mut line: Vec<u8> = random
         .pick(&["", "#", "-", "+a:1.2.3.4", "'a:", "!", "\t"])

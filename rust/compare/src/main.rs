@@ -3,9 +3,10 @@
 use std::env;
 use std::process::ExitCode;
 
-use compare::reading::REFERENCE;
+use compare::difference::Checked;
+use compare::reading::{Reading, REFERENCE};
 use compare::tally::Tally;
-use compare::{cases, edges, worked};
+use compare::{cases, edges, joins, worked};
 
 const USAGE: &str = "\
 compare [--cases N] [--seed N] [--only N] [--trace]
@@ -30,51 +31,69 @@ fn main() -> ExitCode {
         eprintln!("{USAGE}");
         return ExitCode::from(2);
     };
+    // The fixed inputs have every outcome; the others must have them too.
+    let mut fixed_tally = Tally::default();
     let mut tally = Tally::default();
-    let mut differences = 0;
-    let numbers = match options.only {
-        Some(only) => only..only + 1,
-        None => 0..options.cases,
-    };
-    match edges::run(&REFERENCE, &mut tally) {
-        Ok(count) => println!("edges: {count} fixed sources answer as the rules say"),
-        Err(difference) => {
-            println!("difference at a fixed source\n{difference}");
-            differences += 1;
-        }
-    }
-    match worked::run(&REFERENCE, &mut tally) {
-        Ok(count) => println!("examples: {count} fixed questions are answered as the rules say"),
-        Err(difference) => {
-            println!("difference at a fixed question\n{difference}");
-            differences += 1;
-        }
-    }
-    let mut count = 0;
-    for case in numbers {
-        count += 1;
-        if options.trace {
-            eprintln!("case {case}");
-        }
-        if let Err(difference) = cases::run(&REFERENCE, options.seed, case, &mut tally) {
-            let seed = options.seed;
-            println!("difference: compare --seed {seed} --only {case}\n{difference}");
-            differences += 1;
-            if differences == MOST_SHOWN {
-                break;
-            }
-        }
-    }
+    let mut differences = fixed(&mut fixed_tally);
+    let count = made_up(&options, &mut differences, &mut tally);
+    let missing = tally.missing();
+    tally += fixed_tally;
     println!("{tally}");
     println!("compare: {count} cases, {differences} differences");
-    if options.only.is_none() && !tally.has_every_outcome() {
-        println!("compare: an outcome never occurred");
+    if let (None, Some(missing)) = (options.only, missing) {
+        println!("compare: {missing}");
         return ExitCode::FAILURE;
     }
     if differences > 0 {
         return ExitCode::FAILURE;
     }
     ExitCode::SUCCESS
+}
+
+/// Compares the fixed inputs. Returns the number of differences.
+fn fixed(tally: &mut Tally) -> u64 {
+    type Run = fn(&Reading, &mut Tally) -> Checked<u64>;
+    let runs: [(&str, Run, &str); 3] = [
+        ("edges", edges::run, "fixed sources answer"),
+        ("joins", joins::run, "fixed sources joined answer"),
+        ("examples", worked::run, "fixed questions are answered"),
+    ];
+    let mut differences = 0;
+    for (title, run, words) in runs {
+        match run(&REFERENCE, tally) {
+            Ok(count) => println!("{title}: {count} {words} as the rules say"),
+            Err(difference) => {
+                println!("difference at one of the {title}\n{difference}");
+                differences += 1;
+            }
+        }
+    }
+    differences
+}
+
+/// Compares the made-up inputs until too many differ. Returns how many there
+/// were.
+fn made_up(options: &Options, differences: &mut u64, tally: &mut Tally) -> u64 {
+    let seed = options.seed;
+    let numbers = match options.only {
+        Some(only) => only..only + 1,
+        None => 0..options.cases,
+    };
+    let mut count = 0;
+    for case in numbers {
+        count += 1;
+        if options.trace {
+            eprintln!("case {case}");
+        }
+        if let Err(difference) = cases::run(&REFERENCE, seed, case, tally) {
+            println!("difference: compare --seed {seed} --only {case}\n{difference}");
+            *differences += 1;
+            if *differences == MOST_SHOWN {
+                break;
+            }
+        }
+    }
+    count
 }
 
 fn options() -> Option<Options> {

@@ -30,6 +30,14 @@ pub struct Given {
 /// the refusal's number.
 pub type Meant = Result<(u64, Vec<Given>), u64>;
 
+/// Compiles a source with a serial into a buffer and gives the numbers.
+pub type Compile<'a> = &'a dyn Fn(&[u8], u32, &mut [u8]) -> [u64; 4];
+
+/// Tells what parts answer as one source with a serial, and what it writes
+/// into a buffer, from what each is answered by itself; `None` where a part
+/// before the last isn't ended.
+pub type FromParts = fn(Compile<'_>, &[&[u8]], u32, &mut [u8]) -> Option<[u64; 4]>;
+
 /// A second implementation, or an edited copy of it.
 #[derive(Clone, Copy)]
 pub struct Reading {
@@ -37,6 +45,8 @@ pub struct Reading {
     pub name: &'static str,
     /// Compiles a source.
     pub compile: fn(&[u8], u32, &mut [u8]) -> [u64; 4],
+    /// Tells of a joined source.
+    pub joined: FromParts,
     /// Asks for the record at an ordinal: lays the answer into the slice and
     /// returns what the call must.
     pub ask: fn(&[u8], &Asked, u64, &mut [u8]) -> u64,
@@ -51,6 +61,14 @@ macro_rules! reading {
         $crate::reading::Reading {
             name: $name,
             compile: |source, serial, out| $($module)::+::compile(source, serial, out).numbers(),
+            joined: |compile, parts, serial, out| {
+                let compile = |part: &[u8], serial, out: &mut [u8]| {
+                    let [number, line, field, bytes] = compile(part, serial, out);
+                    $($module)::+::CompileAnswer { number, line, field, bytes }
+                };
+                let answer = $($module)::+::joined(parts, serial, out, &compile)?;
+                Some(answer.numbers())
+            },
             ask: |records, asked, ordinal, answer| {
                 let question = $($module)::+::Question {
                     name: &asked.name,

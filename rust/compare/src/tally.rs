@@ -1,6 +1,20 @@
 //! How often each answer was seen, to show that the inputs reach them all.
 
 use std::fmt;
+use std::ops::AddAssign;
+
+/// What became of a joined source.
+#[derive(Clone, Copy, Debug)]
+pub enum Joined {
+    /// All parts are good.
+    Accepted,
+    /// The first part is refused, or the whole is too long.
+    Refused,
+    /// A part behind the first is refused.
+    RefusedLater,
+    /// A part before the last isn't ended.
+    NotEnded,
+}
 
 /// Counts of the calls compared.
 #[derive(Clone, Debug, Default)]
@@ -8,6 +22,7 @@ pub struct Tally {
     compile: [u64; 20],
     ask: [u64; 20],
     outcomes: [u64; 6],
+    joined: [u64; 4],
     /// Answers held against the lines themselves.
     pub meant: u64,
 }
@@ -28,9 +43,34 @@ impl Tally {
         count(&mut self.outcomes, outcome);
     }
 
-    /// Whether each of the five outcomes was seen.
-    pub fn has_every_outcome(&self) -> bool {
-        self.outcomes[1..].iter().all(|&count| count > 0)
+    /// Counts a joined source.
+    pub fn joined(&mut self, joined: Joined) {
+        self.joined[joined as usize] += 1;
+    }
+
+    /// What a run must have seen and has not.
+    pub fn missing(&self) -> Option<&'static str> {
+        if self.outcomes[1..].contains(&0) {
+            return Some("an outcome never occurred");
+        }
+        (self.joined[Joined::RefusedLater as usize] == 0)
+            .then_some("no joined source was refused in a later part")
+    }
+}
+
+impl AddAssign for Tally {
+    fn add_assign(&mut self, other: Tally) {
+        add(&mut self.compile, &other.compile);
+        add(&mut self.ask, &other.ask);
+        add(&mut self.outcomes, &other.outcomes);
+        add(&mut self.joined, &other.joined);
+        self.meant += other.meant;
+    }
+}
+
+fn add(counts: &mut [u64], others: &[u64]) {
+    for (count, other) in counts.iter_mut().zip(others) {
+        *count += other;
     }
 }
 
@@ -45,6 +85,13 @@ impl fmt::Display for Tally {
         write_counts(f, "compile", "calls; answers", &self.compile)?;
         write_counts(f, "ask", "calls; answers", &self.ask)?;
         write_counts(f, "outcomes", "questions; outcomes", &self.outcomes)?;
+        let [accepted, refused, later, open] = self.joined;
+        writeln!(
+            f,
+            "joined: {} sources; accepted: {accepted}, refused: {refused}, refused in a later \
+             part: {later}, a part not ended: {open}",
+            self.joined.iter().sum::<u64>()
+        )?;
         write!(f, "lines: {} answers held to their meaning", self.meant)
     }
 }

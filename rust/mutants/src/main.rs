@@ -5,12 +5,15 @@ use std::process::ExitCode;
 
 use compare::reading::Reading;
 use compare::tally::Tally;
-use compare::{cases, edges, reading};
+use compare::{cases, edges, joins, reading};
 
 const MUTANTS: &[Reading] = copies::each!(reading);
 const SEED: u64 = 1;
 /// A part of what the comparison itself runs.
 const MOST_CASES: u64 = 30_000;
+/// Behind so many cases, which see most mistakes, the fixed sources joined are
+/// tried: they take less time than the other cases.
+const FIRST_CASES: u64 = 5_000;
 
 fn main() -> ExitCode {
     let mut seen = 0;
@@ -34,10 +37,13 @@ fn main() -> ExitCode {
 /// Where the comparison first sees a mistake.
 fn first_sight(mutant: &Reading) -> Option<String> {
     let mut tally = Tally::default();
-    for case in 0..MOST_CASES {
-        if cases::run(mutant, SEED, case, &mut tally).is_err() {
-            return Some(format!("case {case}"));
-        }
+    let mut seen = |case: &u64| cases::run(mutant, SEED, *case, &mut tally).is_err();
+    let first = (0..FIRST_CASES).find(&mut seen);
+    if first.is_none() && joins::run(mutant, &mut Tally::default()).is_err() {
+        return Some("a fixed source joined".to_owned());
+    }
+    if let Some(case) = first.or_else(|| (FIRST_CASES..MOST_CASES).find(&mut seen)) {
+        return Some(format!("case {case}"));
     }
     edges::run(mutant, &mut tally)
         .is_err()

@@ -3,6 +3,7 @@
 //! no code with it or with its wrapper.
 //!
 //! * [`compile()`] turns a source into record bytes;
+//! * [`joined()`] tells from several sources what they answer as one;
 //! * [`ask()`] answers a question over record bytes;
 //! * [`meaning::told`] answers it from the lines themselves, without bytes.
 
@@ -10,6 +11,7 @@ pub mod ask;
 pub mod compile;
 pub mod fault;
 pub mod fields;
+pub mod joining;
 pub mod line;
 pub mod meaning;
 pub mod name;
@@ -23,6 +25,7 @@ pub mod values;
 
 pub use ask::{ask, AskAnswer};
 pub use compile::{compile, CompileAnswer};
+pub use joining::joined;
 pub use outcome::Outcome;
 pub use question::Question;
 pub use source::records;
