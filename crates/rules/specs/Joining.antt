@@ -81,8 +81,8 @@ AnyNumberJoin =
 unfoldable pub linesDown : ℕ → Answer → Answer
 linesDown n a = answer (a .fault) (a .line + n) (a .field) (a .bytes)
 
--- An answer that names a line, 02's k, is a refusal; here k is one less. A line's refusal depends neither on the room
--- nor on the serial, so B has its own of each.
+-- An answer that names a line is a refusal; 02's k is `suc k` here. A line's refusal depends neither on the room nor on
+-- the serial, so B has its own of each.
 -- Rules out: the line of B alone; lines counted otherwise than by byte 10.
 unfoldable pub RefusalsMove : Type 0
 RefusalsMove =

@@ -31,7 +31,7 @@ module _ {serial : ℕ} where
   abbrev pub said : Call serial → Answer
   said x = compileAnswer (x .source) serial (length (x .out))
 
-  -- the bytes that a call wrote which is done: as many as it counted
+  -- the bytes that a call wrote, if it is done: as many as it counted
   abbrev pub wrote : Call serial → List ℕ
   wrote x = take (said x .bytes) (x .out′)
 
@@ -98,7 +98,7 @@ AnyNumberOfCallsJoin =
 
 -- "If A is good and B is refused at line k, the joined one is refused at k plus the number of byte 10s in A, with the
 -- same number, field and column."
--- 02's k is suc k here. B's call may have a serial of its own: a line's refusal doesn't depend on it.
+-- 02's k is `suc k` here. B's call may have a serial of its own: a line's refusal doesn't depend on it.
 -- Rules out: the line of B alone; a line that is bad only because of what stands above it.
 unfoldable pub TheCallsRefuseFurtherDown : Type 0
 TheCallsRefuseFurtherDown =
