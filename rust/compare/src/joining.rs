@@ -1,7 +1,7 @@
 //! Sources joined, compared: what the whole answers and writes with what its
 //! parts say of it.
 
-use vahmizar::sys;
+use vahmizar::{sys, LONGEST_SOURCE};
 
 use crate::compiling::Call;
 use crate::difference::{literal, Checked, Difference};
@@ -9,9 +9,6 @@ use crate::parts::{are_ended, line_ends};
 use crate::random::Random;
 use crate::reading::Reading;
 use crate::tally::{Joined, Tally};
-
-/// Most bytes of a source.
-const LONGEST_SOURCE: usize = 1_048_576;
 
 /// Compares compiling of the whole with its parts. Returns the record bytes
 /// of an accepted whole.
