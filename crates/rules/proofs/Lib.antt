@@ -10,6 +10,11 @@ pub mod Unseen
 pub mod Lowering
 pub mod Refusals
 pub mod Meaning
+pub mod Alike
+pub mod Carried
+pub mod Towns
+pub mod Moments
+pub mod Index
 pub mod Outcomes
 pub mod JoinedLines
 pub mod Joining

@@ -85,7 +85,7 @@ cut pre h x rest n e =
     rw (is, b, drop-append-seam, take-append-seam)
 
 -- at its place stand a record's data, and there it ends
-Held : List ℕ → Placed → Type 0
+unfoldable pub Held : List ℕ → Placed → Type 0
 Held b p = (take (length (rdataOf (p .rec))) (drop (p .end - length (rdataOf (p .rec))) b) ≡ rdataOf (p .rec)) × (p .end - length (rdataOf (p .rec)) + length (rdataOf (p .rec)) ≡ p .end)
 
 held-here : (pre : List ℕ) (n : ℕ) (r : Record) (rest : List ℕ) → n ≡ length pre → Held (pre ++ (encode r ++ rest)) (record { rec = r; end = n + size r })
@@ -99,7 +99,7 @@ held-here pre n r rest e =
       omega arith,
     )
 
-held : (pre : List ℕ) (n : ℕ) (rs : List Record) → n ≡ length pre → All (Held (pre ++ bytesOf rs)) (placedFrom n rs)
+pub held : (pre : List ℕ) (n : ℕ) (rs : List Record) → n ≡ length pre → All (Held (pre ++ bytesOf rs)) (placedFrom n rs)
 unfolding placedFrom bytesOf joinAll
 held pre n [] e = nil
 held pre n (r ∷ rs) e =

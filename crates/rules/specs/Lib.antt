@@ -11,6 +11,9 @@ pub mod Reading
 pub mod Demands
 pub mod Outcomes
 pub mod Joining
+pub mod Towns
+pub mod Moments
+pub mod Index
 pub mod Bench
 pub mod Examples
 pub mod OutcomeExamples

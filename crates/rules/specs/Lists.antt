@@ -29,6 +29,10 @@ module _ {ℓ} {A : Type ℓ} where
   all p [] = true
   all p (x ∷ xs) = p x && all p xs
 
+  unfoldable pub any : (A → Bool) → List A → Bool
+  any p [] = false
+  any p (x ∷ xs) = p x || any p xs
+
   unfoldable pub joinAll : List (List A) → List A
   joinAll [] = []
   joinAll (x ∷ xs) = x ++ joinAll xs
