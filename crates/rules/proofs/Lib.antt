@@ -19,4 +19,5 @@ pub mod Outcomes
 pub mod JoinedLines
 pub mod Joining
 pub mod Sizes
+pub mod Within
 pub mod Bench

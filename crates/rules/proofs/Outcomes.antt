@@ -12,7 +12,7 @@ use Rattle.rules.specs.declared.replies.Outcome.{Outcome}
 use Rattle.rules.specs.Lists.{pick, keep, all}
 use Rattle.rules.specs.Questions.{Question, Placed, ordinaryOf, wildcardOf, ancestorsFrom, ancestors, ancestorsTo, firstFull, level, ofType, ordinaryOfType, isFull, controlOf, Result, byLevel, inZone, byControl, answers}
 use Rattle.rules.specs.Outcomes.{visibleTo, controlName, NamesWithoutControlAreNotOurs, DelegationsRefer, hasRecords, OutcomesFitLists, Refers, ReferralsAreNameServers, listOf01, RecordsAreThoseOf01, TheClimbEndsAtControl, TheControlNameClimbsNowhere}
-use Rattle.rules.proofs.Tests.{pick-ok}
+use Rattle.rules.proofs.Tests.{is-true, pick-ok}
 use Rattle.rules.proofs.Lists.{OnSome}
 
 -- ---- by the control name
@@ -47,10 +47,6 @@ control-has ps [] = tt
 control-has ps (n ∷ ns) =
     let higher = control-has ps ns in
     pick-ok (OnSome (λ c. T (isFull (ordinaryOfType 2 c ps)))) _ (λ t. t) (λ t. higher)
-
-is-true : (b : Bool) → T b → b ≡ true
-is-true true t = refl
-is-true false t = absurd t
 
 control-fits : (type : ℕ) (name : List ℕ) (ps : List Placed) (o : Option (List ℕ)) → OnSome (λ c. T (isFull (ordinaryOfType 2 c ps))) o → Fits (byControl type name ps o)
 unfolding byControl inZone

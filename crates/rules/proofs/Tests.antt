@@ -5,6 +5,10 @@ use lib.Dec.{T, leb→le, ltb→lt, eqb→eq, le→leb, lt→ltb}
 use mir.Facts.{yes-and}
 use Rattle.rules.specs.Lists.{pick}
 
+pub is-true : (b : Bool) → T b → b ≡ true
+is-true true t = refl
+is-true false t = absurd t
+
 pub and-l : (a b : Bool) → T (a && b) → T a
 and-l true b t = tt
 and-l false b t = t

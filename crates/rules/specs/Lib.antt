@@ -18,3 +18,4 @@ pub mod Bench
 pub mod Examples
 pub mod OutcomeExamples
 pub mod JoiningExamples
+pub mod TownExamples

@@ -37,11 +37,11 @@ module _ {serial : ℕ} (x : Call serial) where
   unfolding answer
   counts g room = ap (λ (a : Answer). a .bytes) (done-by g room)
 
-  writes : wrote x ≡ compiledBytes (x .source) serial (x .out)
+  pub writes : wrote x ≡ compiledBytes (x .source) serial (x .out)
   unfolding compiledBytes
   writes = ap (take (said x .bytes)) left
 
-  wrote-records : Accepted (x .source) → Roomy x → wrote x ≡ bytesOf (sourceRecords serial (x .source))
+  pub wrote-records : Accepted (x .source) → Roomy x → wrote x ≡ bytesOf (sourceRecords serial (x .source))
   wrote-records g room = writes ∙ written (x .source) serial (x .out) g room
 
 pub the-call-says : TheCallSays

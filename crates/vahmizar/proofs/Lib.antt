@@ -1,3 +1,4 @@
 mod Laid
 pub mod Kept
 pub mod Joined
+pub mod Towns

@@ -1,0 +1,156 @@
+-- 02, W14: worked examples of towns, moments and names, as tables under one statement, `town-examples-hold`.
+use Prim.Native.Nat.{ℕ, zero, suc, _+_, _-_}
+use Prim.Native.String.{String}
+use mathlib.Core.Path.{_≡_}
+use mathlib.Core.Bool.{Bool, true, false}
+use mathlib.Core.List.{List, [], _∷_, map}
+use lib.ListN.{length}
+use Rattle.rules.specs.declared.replies.Response.{Response}
+use Rattle.rules.specs.Texts.{bytes}
+use Rattle.rules.specs.Bytes.{bytesOf}
+use Rattle.rules.specs.Answers.{sourceRecords}
+use Rattle.rules.specs.Questions.{Question, locationOf}
+use Rattle.rules.specs.Reading.{responseNumbers, askResponse}
+use Rattle.rules.specs.Towns.{locationLines, linesFor, withoutPlace, handed}
+use Rattle.rules.specs.Moments.{quiet}
+use Rattle.rules.specs.Index.{matters}
+use Rattle.rules.specs.Bench.{sourceOf, wire}
+
+-- two towns, east and west, in one zone; west has a delegation at h.b, a zone and a wildcard of its own
+unfoldable pub both : List String
+both =
+    "%ea:192.0" ∷ ".b" ∷ "+h.b:192.0.2.1:::ea" ∷ "+h.b:192.0.2.2:::we" ∷ "&h.b::x.y:::we" ∷ ".s.b::i:::we" ∷ "%we:192.168"
+    ∷ "+*.b:192.0.2.3:::we" ∷ "+*.b:192.0.2.4" ∷ []
+
+-- the same for a client in the east: west's lines are gone, another town's are there
+unfoldable pub eastAlone : List String
+eastAlone = "# east" ∷ "+x.s.b:192.0.2.5:::zz" ∷ ".b " ∷ "%ea:192.0" ∷ "%we:192.168" ∷ "+h.b:192.0.2.1:::ea" ∷ ".h.b::i:::zz" ∷ "+*.b:192.0.2.4" ∷ []
+
+unfoldable pub eastClient : List ℕ
+eastClient = 192 ∷ 0 ∷ 2 ∷ 9 ∷ []
+
+unfoldable pub westClient : List ℕ
+westClient = 192 ∷ 168 ∷ 0 ∷ 1 ∷ []
+
+unfoldable pub noClient : List ℕ
+noClient = 10 ∷ 0 ∷ 0 ∷ 1 ∷ []
+
+-- ---- which lines count: a source, a client, its location, the `%` lines, and the other lines for it
+pub record CountedRow : Type 0 where
+  pub lines : List String
+  pub client : List ℕ
+  pub here : List ℕ
+  pub locations : List String
+  pub others : List String
+
+unfoldable pub counted : List String → List ℕ → List ℕ → List String → List String → CountedRow
+counted lines client here locations others = record { lines = lines; client = client; here = here; locations = locations; others = others }
+
+unfoldable pub countedOf : CountedRow → List ℕ × List (List ℕ) × List (List ℕ)
+countedOf r =
+    let source = sourceOf (r .lines) in
+    let here = locationOf (r .client) (sourceRecords 7 source) in
+    (here, locationLines source, linesFor here source)
+
+unfoldable pub expectedOf : CountedRow → List ℕ × List (List ℕ) × List (List ℕ)
+expectedOf r = (r .here, map bytes (r .locations), map bytes (r .others))
+
+unfoldable pub towns : List String
+towns = "%ea:192.0" ∷ "%we:192.168" ∷ []
+
+unfoldable pub countedRows : List CountedRow
+countedRows =
+    counted both eastClient (bytes "ea") towns (".b" ∷ "+h.b:192.0.2.1:::ea" ∷ "+*.b:192.0.2.4" ∷ [])
+    ∷ counted eastAlone eastClient (bytes "ea") towns (".b" ∷ "+h.b:192.0.2.1:::ea" ∷ "+*.b:192.0.2.4" ∷ [])
+    ∷ counted both westClient (bytes "we") towns
+    (".b" ∷ "+h.b:192.0.2.2:::we" ∷ "&h.b::x.y:::we" ∷ ".s.b::i:::we" ∷ "+*.b:192.0.2.3:::we" ∷ "+*.b:192.0.2.4" ∷ [])
+    -- without a location, every line with a lo is another town's
+    ∷ counted both noClient [] towns (".b" ∷ "+*.b:192.0.2.4" ∷ [])
+    -- a lo of one letter has a 0 behind it; `-` lines are ignored, and a lo that only begins alike is another
+    ∷ counted ("%e" ∷ "+h.b:192.0.2.1:::e" ∷ "-h.b:192.0.2.1:::e" ∷ "+h.b:192.0.2.2:::ea" ∷ "" ∷ []) noClient (101 ∷ 0 ∷ [])
+    ("%e" ∷ []) ("+h.b:192.0.2.1:::e" ∷ [])
+    ∷ []
+
+-- ---- what is answered: a source, a question, and at the ordinals from 0 on the six numbers, the place as 0, and the data
+pub record AskedRow : Type 0 where
+  pub lines : List String
+  pub question : Question
+  pub told : List (List ℕ × List ℕ)
+
+unfoldable pub asked : List String → List ℕ → ℕ → List String → List (List ℕ × List ℕ) → AskedRow
+asked lines client moment name told = record { lines = lines; question = record { name = wire name; type = 1; client = client; moment = moment }; told = told }
+
+unfoldable pub toldAt : List ℕ → Question → ℕ → List ℕ × List ℕ
+toldAt stream q ordinal =
+    let r = askResponse stream q ordinal in
+    (responseNumbers (record { outcome = r .outcome; reply = withoutPlace (r .reply) }), handed stream (r .reply))
+
+unfoldable pub toldUpTo : List ℕ → Question → ℕ → ℕ → List (List ℕ × List ℕ)
+toldUpTo stream q ordinal zero = []
+toldUpTo stream q ordinal (suc count) = toldAt stream q ordinal ∷ toldUpTo stream q (suc ordinal) count
+
+unfoldable pub toldBy : AskedRow → List (List ℕ × List ℕ)
+toldBy r = toldUpTo (bytesOf (sourceRecords 7 (sourceOf (r .lines)))) (r .question) 0 (length (r .told))
+
+-- an address and no more; and nothing, with the outcome
+unfoldable pub address : ℕ → ℕ → List (List ℕ × List ℕ)
+address lifetime last = (0 ∷ 1 ∷ lifetime ∷ 0 ∷ 4 ∷ 3 ∷ [], 192 ∷ 0 ∷ 2 ∷ last ∷ []) ∷ (18 ∷ 0 ∷ 0 ∷ 0 ∷ 0 ∷ 3 ∷ [], []) ∷ []
+
+unfoldable pub nobody : ℕ → List (List ℕ × List ℕ)
+nobody outcome = (18 ∷ 0 ∷ 0 ∷ 0 ∷ 0 ∷ outcome ∷ [], []) ∷ []
+
+-- an address until a second, another from it on
+unfoldable pub changeAt : ℕ
+changeAt = 4611686019378385785
+
+unfoldable pub changes : List String
+changes = ".b" ∷ "+w.b:192.0.2.234:0:4000000038af1379" ∷ "+w.b:192.0.2.235::4000000038af1379" ∷ []
+
+unfoldable pub askedRows : List AskedRow
+askedRows =
+    asked both eastClient 1 ("h" ∷ "b" ∷ []) (address 86400 1)
+    ∷ asked eastAlone eastClient 1 ("h" ∷ "b" ∷ []) (address 86400 1)
+    ∷ asked both eastClient 1 ("x" ∷ "s" ∷ "b" ∷ []) (address 86400 4)
+    ∷ asked eastAlone eastClient 1 ("x" ∷ "s" ∷ "b" ∷ []) (address 86400 4)
+    ∷ asked both eastClient 1 ("c" ∷ []) (nobody 1)
+    ∷ asked eastAlone eastClient 1 ("c" ∷ []) (nobody 1)
+    -- in the west h.b is a delegation, and s.b a zone without that name
+    ∷ asked both westClient 1 ("h" ∷ "b" ∷ []) ((0 ∷ 2 ∷ 259200 ∷ 0 ∷ 5 ∷ 2 ∷ [], wire ("x" ∷ "y" ∷ [])) ∷ (18 ∷ 0 ∷ 0 ∷ 0 ∷ 0 ∷ 2 ∷ [], []) ∷ [])
+    ∷ asked both westClient 1 ("x" ∷ "s" ∷ "b" ∷ []) (nobody 5)
+    ∷ asked both noClient 1 ("h" ∷ "b" ∷ []) (address 86400 4)
+    -- `%` lines of another order are another source: of equal prefixes the first counts
+    ∷ asked ("%ea:192.0" ∷ "%we:192.0" ∷ ".b" ∷ "+h.b:192.0.2.1:::ea" ∷ "+h.b:192.0.2.2:::we" ∷ []) eastClient 1 ("h" ∷ "b" ∷ []) (address 86400 1)
+    ∷ asked ("%we:192.0" ∷ "%ea:192.0" ∷ ".b" ∷ "+h.b:192.0.2.1:::ea" ∷ "+h.b:192.0.2.2:::we" ∷ []) eastClient 1 ("h" ∷ "b" ∷ []) (address 86400 2)
+    -- up to the changeover the lifetime alone changes, and behind it nothing does
+    ∷ asked changes eastClient (changeAt - 5) ("w" ∷ "b" ∷ []) (address 5 234)
+    ∷ asked changes eastClient (changeAt - 1) ("w" ∷ "b" ∷ []) (address 2 234)
+    ∷ asked changes eastClient changeAt ("w" ∷ "b" ∷ []) (address 86400 235)
+    ∷ asked changes eastClient (changeAt + 5) ("w" ∷ "b" ∷ []) (address 86400 235)
+    ∷ []
+
+-- ---- whether no time lies after the earlier moment and not after the later
+unfoldable pub quietRows : List (List String × ℕ × ℕ × Bool)
+quietRows =
+    (changes, changeAt - 5, changeAt - 1, true)
+    ∷ (changes, changeAt - 1, changeAt, false)
+    ∷ (changes, changeAt, changeAt, true)
+    ∷ (changes, changeAt, changeAt + 5, true)
+    ∷ (changes, 0, changeAt + 5, false)
+    ∷ (both, 0, changeAt + 5, true)
+    ∷ ("#w.b:192.0.2.234:0:4000000038af1379" ∷ [], 0, changeAt + 5, true)
+    ∷ []
+
+-- ---- which records of `both` matter to a name, in turn
+unfoldable pub mattersRows : List (List String × List Bool)
+mattersRows =
+    ("h" ∷ "b" ∷ [], true ∷ true ∷ true ∷ true ∷ true ∷ true ∷ false ∷ false ∷ true ∷ true ∷ true ∷ [])
+    ∷ ("x" ∷ "s" ∷ "b" ∷ [], true ∷ true ∷ true ∷ false ∷ false ∷ false ∷ true ∷ true ∷ true ∷ true ∷ true ∷ [])
+    ∷ ("b" ∷ [], true ∷ true ∷ true ∷ false ∷ false ∷ false ∷ false ∷ false ∷ true ∷ false ∷ false ∷ [])
+    ∷ ([], true ∷ false ∷ false ∷ false ∷ false ∷ false ∷ false ∷ false ∷ true ∷ false ∷ false ∷ [])
+    ∷ []
+
+pub record TownExamplesHold : Type 0 where
+  pub lines : map countedOf countedRows ≡ map expectedOf countedRows
+  pub told : map toldBy askedRows ≡ map (λ r. r .told) askedRows
+  pub times : map (λ r. quiet (r .1) (r .2) (sourceOf (r .0))) quietRows ≡ map (λ r. r .3) quietRows
+  pub names : map (λ r. map (matters (wire (r .0))) (sourceRecords 7 (sourceOf both))) mattersRows ≡ map (λ r. r .1) mattersRows
