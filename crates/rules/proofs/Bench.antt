@@ -17,7 +17,7 @@ use Rattle.rules.specs.JoiningExamples.{joined, saidOf, north, south, jo
 use Rattle.rules.specs.Towns.{strippedLines, isLocationLine, sharedIn, hasLoOf, locationLines, linesFor, withoutPlace, handed}
 use Rattle.rules.specs.Moments.{quietLine, quiet}
 use Rattle.rules.specs.Index.{isLocation, matters}
-use Rattle.rules.specs.TownExamples.{both, eastAlone, eastClient, westClient, noClient, counted, countedOf, expectedOf, towns, countedRows, asked, toldAt, toldUpTo, toldBy, address, nobody, changeAt, changes, askedRows, quietRows, mattersRows, TownExamplesHold}
+use Rattle.rules.specs.TownExamples.{both, eastAlone, eastClient, westClient, noClient, counted, countedOf, expectedOf, towns, countedRows, asked, toldAt, toldUpTo, toldBy, address, nobody, hosts, changeAt, changes, askedRows, quietRows, mattersRows, TownExamplesHold}
 
 -- what the rules say of a case; whoever unfolds this unfolds the rules, which its line names
 saying : Case → Said
@@ -41,5 +41,5 @@ unfolding saying ended endedButLast closed joinedFiles joined saidOf north south
 joining-examples-hold = record { answers = refl; bytes = refl; ends = refl }
 
 pub town-examples-hold : TownExamplesHold
-unfolding saying wire strippedLines isLocationLine sharedIn hasLoOf locationLines linesFor withoutPlace handed quietLine quiet any isLocation matters both eastAlone eastClient westClient noClient counted countedOf expectedOf towns countedRows asked toldAt toldUpTo toldBy address nobody changeAt changes askedRows quietRows mattersRows
+unfolding saying wire strippedLines isLocationLine sharedIn hasLoOf locationLines linesFor withoutPlace handed quietLine quiet any isLocation matters both eastAlone eastClient westClient noClient counted countedOf expectedOf towns countedRows asked toldAt toldUpTo toldBy address nobody hosts changeAt changes askedRows quietRows mattersRows
 town-examples-hold = record { lines = refl; told = refl; times = refl; names = refl }

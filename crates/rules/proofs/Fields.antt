@@ -17,7 +17,7 @@ use Rattle.rules.specs.Fields.{numberOf, hexFrom, groupBytes, octetByte,
 use Rattle.rules.specs.Records.{numberOr, addressIn, loBytes}
 use Rattle.rules.specs.Answers.{isDone}
 use Rattle.rules.specs.Reading.{isLo}
-use Rattle.rules.proofs.Tests.{pick-ok, tests, passes}
+use Rattle.rules.proofs.Tests.{or-r, pick-ok, tests, passes}
 use Rattle.rules.proofs.Lists.{OnSome, length-join}
 use Rattle.rules.proofs.Numbers.{length-be}
 use Rattle.rules.proofs.Names.{Wire, OnName, name-ok, label-ok}
@@ -68,15 +68,11 @@ abbrev pub LoOrNone : List ℕ → Type 0
 LoOrNone [] = Unit {0}
 LoOrNone (a ∷ l) = T (isLo (a ∷ l))
 
-or-right : (p q : Bool) → T q → T (p || q)
-or-right true q t = tt
-or-right false q t = t
-
 lo-read : (t : List ℕ) → OnSome (λ lo. T (isLo (loBytes lo))) (loOf t)
 unfolding loOf loBytes isLo
 lo-read [] = tt
 lo-read (a ∷ []) = pick-ok (OnSome (λ lo. T (isLo (loBytes lo)))) _ (λ k. search passes) (λ k. tt)
-lo-read (a ∷ b ∷ []) = pick-ok (OnSome (λ lo. T (isLo (loBytes lo)))) _ (λ k. search (passes, or-right, tests)) (λ k. tt)
+lo-read (a ∷ b ∷ []) = pick-ok (OnSome (λ lo. T (isLo (loBytes lo)))) _ (λ k. search (passes, or-r, tests)) (λ k. tt)
 lo-read (a ∷ b ∷ c ∷ t) = tt
 
 pub lo-of : (l : List ℕ) → T (isLo l) → LoOrNone l

@@ -5,13 +5,14 @@ use mathlib.Core.Bool.{Bool, true, false, not, _&&_, _||_}
 use mathlib.Core.List.{List, [], _∷_, map}
 use mathlib.Core.Option.{Option, none, some}
 use lib.Dec.{T}
+use mir.Facts.{T-not}
 use Rattle.rules.specs.Lists.{pick, keep, any, lower}
 use Rattle.rules.specs.Records.{Record, location, resource}
 use Rattle.rules.specs.Answers.{sourceRecords}
 use Rattle.rules.specs.Questions.{Question, Placed, Best, better, bestOf, locationOf, visible, ordinaryOf, wildcardOf, ancestors, ancestorsTo, firstFull, level, ofType, ordinaryOfType, isFull, controlOf, inZone, byControl, answers}
 use Rattle.rules.specs.Towns.{AnswerAlike}
 use Rattle.rules.specs.Index.{isLocation, matters, mattersTo, OtherNamesAreUnseen, TheseAloneDecide, AnIndexIsEnough}
-use Rattle.rules.proofs.Tests.{pick-ok, pick-no, pick-yes, and-l}
+use Rattle.rules.proofs.Tests.{and-l, or-l, or-r, pick-ok}
 use Rattle.rules.proofs.Lists.{OnSome, All, nil, cons, all-head, all-tail, all-keep, all-weaken, keep-map}
 use Rattle.rules.proofs.Meaning.{source-ok, written}
 use Rattle.rules.proofs.Alike.{bare, same-bare, asked-alike}
@@ -42,10 +43,6 @@ module _ {ℓ} {A : Type ℓ} (p c : A → Bool) where
       go false true e f same = unfold pick keep in rw (e, same)
       go false false e f same = unfold pick in same
 
-not-both : (a : Bool) → T a → T (not a) → ⊥
-not-both true t f = f
-not-both false t f = t
-
 -- a choice of records has all that pass a test
 abbrev Has : (Record → Bool) → (Record → Bool) → Type 0
 Has chosen test = (r : Record) → T (test r) → T (chosen r)
@@ -63,7 +60,7 @@ module _ (chosen : Record → Bool) (name : List ℕ) (covers : Covers chosen na
   passed : (client : List ℕ) (b : Best) (r : Record) → T (not (chosen r)) → better client b r ≡ b
   unfolding better isLocation
   passed client b (resource owner type lo ttl time rdata) t = refl
-  passed client b (location prefix lo) t = absurd (not-both (chosen (location prefix lo)) (covers .locations (location prefix lo) tt) t)
+  passed client b (location prefix lo) t = absurd (T-not (chosen (location prefix lo)) (covers .locations (location prefix lo) tt) t)
 
   best-only : (client : List ℕ) (b : Best) (ps : List Placed) → bestOf client b (map (λ p. p .rec) (only ps)) ≡ bestOf client b (map (λ p. p .rec) ps)
   unfolding keep bestOf
@@ -117,19 +114,11 @@ only-these q chosen covers ps =
 
 -- ---- the records that matter
 
-or-first : (a b : Bool) → T a → T (a || b)
-or-first true b t = tt
-or-first false b t = absurd t
-
-or-second : (a b : Bool) → T b → T (a || b)
-or-second true b t = tt
-or-second false b t = t
-
 -- what one of the tests passes, any does
 any-has {ℓ} : {A : Type ℓ} (p : A → Record → Bool) (ns : List A) → All (λ n. Has (λ r. any (λ m. p m r) ns) (p n)) ns
 unfolding any
 any-has p [] = nil
-any-has p (n ∷ ns) = cons (λ r t. or-first (p n r) _ t) (all-weaken (λ m h r t. or-second (p n r) _ (h r t)) (any-has p ns))
+any-has p (n ∷ ns) = cons (λ r t. or-l (p n r) _ t) (all-weaken (λ m h r t. or-r (p n r) _ (h r t)) (any-has p ns))
 
 module _ (name : List ℕ) where
   abbrev byName : Record → Bool
@@ -141,9 +130,9 @@ module _ (name : List ℕ) where
   matters-covers : Covers (matters name) name
   unfolding matters
   matters-covers = record {
-    locations = λ r t. or-first (isLocation r || byName r) (byWildcard r) (or-first (isLocation r) (byName r) t);
-    names = all-weaken (λ n h r t. or-first (isLocation r || byName r) (byWildcard r) (or-second (isLocation r) (byName r) (h r t))) (any-has ordinaryOf (name ∷ ancestors name));
-    wildcards = all-weaken (λ n h r t. or-second (isLocation r || byName r) (byWildcard r) (h r t)) (any-has wildcardOf (ancestors name));
+    locations = λ r t. or-l (isLocation r || byName r) (byWildcard r) (or-l (isLocation r) (byName r) t);
+    names = all-weaken (λ n h r t. or-l (isLocation r || byName r) (byWildcard r) (or-r (isLocation r) (byName r) (h r t))) (any-has ordinaryOf (name ∷ ancestors name));
+    wildcards = all-weaken (λ n h r t. or-r (isLocation r || byName r) (byWildcard r) (h r t)) (any-has wildcardOf (ancestors name));
   }
 
 covers-more : (chosen wider : Record → Bool) (name : List ℕ) → ((r : Record) → T (chosen r) → T (wider r)) → Covers chosen name → Covers wider name

@@ -9,6 +9,7 @@ use mathlib.Core.Logic.{_⊎_, inl, inr}
 use lib.ListN.{length, getElem?}
 use lib.Dec.{T, leb, ltb, eqb, leb→le, ltb→lt, le→leb, lt→ltb, eqb·suc-zero}
 use lib.Arith.{lt→nleb, le→nltb}
+use mir.Facts.{or-yes}
 use Rattle.rules.specs.declared.quantities.Shared.{Shared}
 use Rattle.rules.specs.declared.replies.AskFault.{AskFault}
 use Rattle.rules.specs.declared.replies.Response.{Response}
@@ -22,7 +23,7 @@ use Rattle.rules.specs.Questions.{Question, Placed, placedFrom, location
 use Rattle.rules.specs.Reading.{typeOf, momentEnd, isClient, replyOf, responseOf, responseFrom, refusal, askResponse}
 use Rattle.rules.specs.Towns.{strippedLines, sharedIn, resultFrom}
 use Rattle.rules.specs.Moments.{quietLine, quiet, askedAt, ends, BetweenTimesNothingChanges, withoutLifetime, lasts, SameButLifetime, handedOut, BetweenTimesAskedAlike}
-use Rattle.rules.proofs.Tests.{pick-no, and-l, and-r}
+use Rattle.rules.proofs.Tests.{is-true, is-false, and-l, and-r, pick-no}
 use Rattle.rules.proofs.Lists.{All, nil, cons, all-append, all-weaken}
 use Rattle.rules.proofs.Records.{Ok}
 use Rattle.rules.proofs.Meaning.{source-ok, written}
@@ -31,18 +32,10 @@ use Rattle.rules.proofs.Alike.{asked-records}
 use Rattle.rules.proofs.Towns.{recordsIn, records-by-lines}
 
 both-yes : (a b : Bool) → T a → T b → a ≡ b
-both-yes true true t u = refl
-both-yes true false t u = absurd u
-both-yes false b t u = absurd t
+both-yes a b t u = is-true a t ∙ sym (is-true b u)
 
 both-no : (a b : Bool) → T (not a) → T (not b) → a ≡ b
-both-no true b t u = absurd t
-both-no false true t u = absurd u
-both-no false false t u = refl
-
-or-cases : (a b : Bool) → T (a || b) → T a ⊎ T b
-or-cases true b t = inl tt
-or-cases false b t = inr t
+both-no a b t u = is-false a t ∙ sym (is-false b u)
 
 module _ (earlier later : ℕ) (ordered : earlier ≤ later) where
   in-time-same : (ttl time : ℕ) → T (leb time earlier || ltb later time) → inTime earlier ttl time ≡ inTime later ttl time
@@ -51,7 +44,7 @@ module _ (earlier later : ℕ) (ordered : earlier ≤ later) where
   in-time-same ttl (suc n) t = ap₂ (pick (eqb ttl 0)) (before two) (from two)
     where
       two : T (leb (suc n) earlier) ⊎ T (ltb later (suc n))
-      two = or-cases (leb (suc n) earlier) (ltb later (suc n)) t
+      two = or-yes (leb (suc n) earlier) (ltb later (suc n)) t
 
       before : T (leb (suc n) earlier) ⊎ T (ltb later (suc n)) → ltb earlier (suc n) ≡ ltb later (suc n)
       before (inl h) = let k : suc n ≤ earlier = leb→le _ _ h in both-no _ _ (le→nltb earlier (suc n) k) (le→nltb later (suc n) (omega arith))

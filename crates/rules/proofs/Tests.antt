@@ -1,6 +1,6 @@
 -- Laws of tests and of what a test picks.
 use mathlib.Core.Path.{_≡_, refl}
-use mathlib.Core.Bool.{Bool, true, false, not, _&&_}
+use mathlib.Core.Bool.{Bool, true, false, not, _&&_, _||_}
 use lib.Dec.{T, leb→le, ltb→lt, eqb→eq, le→leb, lt→ltb}
 use mir.Facts.{yes-and}
 use Rattle.rules.specs.Lists.{pick}
@@ -9,6 +9,10 @@ pub is-true : (b : Bool) → T b → b ≡ true
 is-true true t = refl
 is-true false t = absurd t
 
+pub is-false : (b : Bool) → T (not b) → b ≡ false
+is-false true t = absurd t
+is-false false t = refl
+
 pub and-l : (a b : Bool) → T (a && b) → T a
 and-l true b t = tt
 and-l false b t = t
@@ -16,6 +20,14 @@ and-l false b t = t
 pub and-r : (a b : Bool) → T (a && b) → T b
 and-r true b t = t
 and-r false b t = absurd t
+
+pub or-l : (a b : Bool) → T a → T (a || b)
+or-l true b t = tt
+or-l false b t = absurd t
+
+pub or-r : (a b : Bool) → T b → T (a || b)
+or-r true b t = tt
+or-r false b t = t
 
 -- what a test says: `search tests`; and a test from what it says: `search passes`
 pub ruleset tests = (and-l, and-r, leb→le, ltb→lt, eqb→eq)

@@ -20,7 +20,8 @@ isLocation (resource owner type lo ttl time rdata) = false
 -- the records that a question of a name, letters lowered, can depend on: the location records, those of the name and
 -- of its ancestors, and the wildcards of its ancestors
 unfoldable pub matters : List ℕ → Record → Bool
-matters name r = isLocation r || any (λ n. ordinaryOf n r) (name ∷ ancestors name) || any (λ n. wildcardOf n r) (ancestors name)
+matters name r =
+    isLocation r || any (λ n. ordinaryOf n r) (name ∷ ancestors name) || any (λ n. wildcardOf n r) (ancestors name)
 
 unfoldable pub mattersTo : Question → Record → Bool
 mattersTo q r = matters (map lower (q .name)) r
@@ -28,7 +29,8 @@ mattersTo q r = matters (map lower (q .name)) r
 -- All others can be left out, and nothing changes, places included.
 -- Rules out: a name that another one's records hide; a record below the asked name that makes it exist.
 unfoldable pub OtherNamesAreUnseen : Type 0
-OtherNamesAreUnseen = (q : Question) (ps : List Placed) → answers q (keep (λ p. mattersTo q (p .rec)) ps) ≡ answers q ps
+OtherNamesAreUnseen =
+    (q : Question) (ps : List Placed) → answers q (keep (λ p. mattersTo q (p .rec)) ps) ≡ answers q ps
 
 -- So these alone decide, in their order: whoever else stands among them, and wherever they stand.
 unfoldable pub TheseAloneDecide : Type 0

@@ -19,12 +19,14 @@ use Rattle.rules.specs.Bench.{sourceOf, wire}
 -- two towns, east and west, in one zone; west has a delegation at h.b, a zone and a wildcard of its own
 unfoldable pub both : List String
 both =
-    "%ea:192.0" ∷ ".b" ∷ "+h.b:192.0.2.1:::ea" ∷ "+h.b:192.0.2.2:::we" ∷ "&h.b::x.y:::we" ∷ ".s.b::i:::we" ∷ "%we:192.168"
-    ∷ "+*.b:192.0.2.3:::we" ∷ "+*.b:192.0.2.4" ∷ []
+    "%ea:192.0" ∷ ".b" ∷ "+h.b:192.0.2.1:::ea" ∷ "+h.b:192.0.2.2:::we" ∷ "&h.b::x.y:::we" ∷ ".s.b::i:::we"
+    ∷ "%we:192.168" ∷ "+*.b:192.0.2.3:::we" ∷ "+*.b:192.0.2.4" ∷ []
 
 -- the same for a client in the east: west's lines are gone, another town's are there
 unfoldable pub eastAlone : List String
-eastAlone = "# east" ∷ "+x.s.b:192.0.2.5:::zz" ∷ ".b " ∷ "%ea:192.0" ∷ "%we:192.168" ∷ "+h.b:192.0.2.1:::ea" ∷ ".h.b::i:::zz" ∷ "+*.b:192.0.2.4" ∷ []
+eastAlone =
+    "# east" ∷ "+x.s.b:192.0.2.5:::zz" ∷ ".b " ∷ "%ea:192.0" ∷ "%we:192.168" ∷ "+h.b:192.0.2.1:::ea" ∷ ".h.b::i:::zz"
+    ∷ "+*.b:192.0.2.4" ∷ []
 
 unfoldable pub eastClient : List ℕ
 eastClient = 192 ∷ 0 ∷ 2 ∷ 9 ∷ []
@@ -44,7 +46,8 @@ pub record CountedRow : Type 0 where
   pub others : List String
 
 unfoldable pub counted : List String → List ℕ → List ℕ → List String → List String → CountedRow
-counted lines client here locations others = record { lines = lines; client = client; here = here; locations = locations; others = others }
+counted lines client here locations others =
+    record { lines = lines; client = client; here = here; locations = locations; others = others }
 
 unfoldable pub countedOf : CountedRow → List ℕ × List (List ℕ) × List (List ℕ)
 countedOf r =
@@ -67,18 +70,21 @@ countedRows =
     -- without a location, every line with a lo is another town's
     ∷ counted both noClient [] towns (".b" ∷ "+*.b:192.0.2.4" ∷ [])
     -- a lo of one letter has a 0 behind it; `-` lines are ignored, and a lo that only begins alike is another
-    ∷ counted ("%e" ∷ "+h.b:192.0.2.1:::e" ∷ "-h.b:192.0.2.1:::e" ∷ "+h.b:192.0.2.2:::ea" ∷ "" ∷ []) noClient (101 ∷ 0 ∷ [])
-    ("%e" ∷ []) ("+h.b:192.0.2.1:::e" ∷ [])
+    ∷ counted ("%e" ∷ "+h.b:192.0.2.1:::e" ∷ "-h.b:192.0.2.1:::e" ∷ "+h.b:192.0.2.2:::ea" ∷ "" ∷ []) noClient
+    (101 ∷ 0 ∷ []) ("%e" ∷ []) ("+h.b:192.0.2.1:::e" ∷ [])
     ∷ []
 
--- ---- what is answered: a source, a question, and at the ordinals from 0 on the six numbers, the place as 0, and the data
+-- ---- what is answered: a source, a question, and at the ordinals from 0 on the six numbers, the place as 0, and the
+-- data
 pub record AskedRow : Type 0 where
   pub lines : List String
   pub question : Question
   pub told : List (List ℕ × List ℕ)
 
 unfoldable pub asked : List String → List ℕ → ℕ → List String → List (List ℕ × List ℕ) → AskedRow
-asked lines client moment name told = record { lines = lines; question = record { name = wire name; type = 1; client = client; moment = moment }; told = told }
+asked lines client moment name told =
+    let question : Question = record { name = wire name; type = 1; client = client; moment = moment } in
+    record { lines = lines; question = question; told = told }
 
 unfoldable pub toldAt : List ℕ → Question → ℕ → List ℕ × List ℕ
 toldAt stream q ordinal =
@@ -92,12 +98,16 @@ toldUpTo stream q ordinal (suc count) = toldAt stream q ordinal ∷ toldUpTo str
 unfoldable pub toldBy : AskedRow → List (List ℕ × List ℕ)
 toldBy r = toldUpTo (bytesOf (sourceRecords 7 (sourceOf (r .lines)))) (r .question) 0 (length (r .told))
 
--- an address and no more; and nothing, with the outcome
-unfoldable pub address : ℕ → ℕ → List (List ℕ × List ℕ)
-address lifetime last = (0 ∷ 1 ∷ lifetime ∷ 0 ∷ 4 ∷ 3 ∷ [], 192 ∷ 0 ∷ 2 ∷ last ∷ []) ∷ (18 ∷ 0 ∷ 0 ∷ 0 ∷ 0 ∷ 3 ∷ [], []) ∷ []
-
+-- no more, with the outcome; and an address
 unfoldable pub nobody : ℕ → List (List ℕ × List ℕ)
 nobody outcome = (18 ∷ 0 ∷ 0 ∷ 0 ∷ 0 ∷ outcome ∷ [], []) ∷ []
+
+unfoldable pub address : ℕ → ℕ → List (List ℕ × List ℕ)
+address lifetime last = (0 ∷ 1 ∷ lifetime ∷ 0 ∷ 4 ∷ 3 ∷ [], 192 ∷ 0 ∷ 2 ∷ last ∷ []) ∷ nobody 3
+
+-- a host with an address in each town
+unfoldable pub hosts : List String
+hosts = ".b" ∷ "+h.b:192.0.2.1:::ea" ∷ "+h.b:192.0.2.2:::we" ∷ []
 
 -- an address until a second, another from it on
 unfoldable pub changeAt : ℕ
@@ -115,12 +125,12 @@ askedRows =
     ∷ asked both eastClient 1 ("c" ∷ []) (nobody 1)
     ∷ asked eastAlone eastClient 1 ("c" ∷ []) (nobody 1)
     -- in the west h.b is a delegation, and s.b a zone without that name
-    ∷ asked both westClient 1 ("h" ∷ "b" ∷ []) ((0 ∷ 2 ∷ 259200 ∷ 0 ∷ 5 ∷ 2 ∷ [], wire ("x" ∷ "y" ∷ [])) ∷ (18 ∷ 0 ∷ 0 ∷ 0 ∷ 0 ∷ 2 ∷ [], []) ∷ [])
+    ∷ asked both westClient 1 ("h" ∷ "b" ∷ []) ((0 ∷ 2 ∷ 259200 ∷ 0 ∷ 5 ∷ 2 ∷ [], wire ("x" ∷ "y" ∷ [])) ∷ nobody 2)
     ∷ asked both westClient 1 ("x" ∷ "s" ∷ "b" ∷ []) (nobody 5)
     ∷ asked both noClient 1 ("h" ∷ "b" ∷ []) (address 86400 4)
     -- `%` lines of another order are another source: of equal prefixes the first counts
-    ∷ asked ("%ea:192.0" ∷ "%we:192.0" ∷ ".b" ∷ "+h.b:192.0.2.1:::ea" ∷ "+h.b:192.0.2.2:::we" ∷ []) eastClient 1 ("h" ∷ "b" ∷ []) (address 86400 1)
-    ∷ asked ("%we:192.0" ∷ "%ea:192.0" ∷ ".b" ∷ "+h.b:192.0.2.1:::ea" ∷ "+h.b:192.0.2.2:::we" ∷ []) eastClient 1 ("h" ∷ "b" ∷ []) (address 86400 2)
+    ∷ asked ("%ea:192.0" ∷ "%we:192.0" ∷ hosts) eastClient 1 ("h" ∷ "b" ∷ []) (address 86400 1)
+    ∷ asked ("%we:192.0" ∷ "%ea:192.0" ∷ hosts) eastClient 1 ("h" ∷ "b" ∷ []) (address 86400 2)
     -- up to the changeover the lifetime alone changes, and behind it nothing does
     ∷ asked changes eastClient (changeAt - 5) ("w" ∷ "b" ∷ []) (address 5 234)
     ∷ asked changes eastClient (changeAt - 1) ("w" ∷ "b" ∷ []) (address 2 234)
@@ -153,4 +163,6 @@ pub record TownExamplesHold : Type 0 where
   pub lines : map countedOf countedRows ≡ map expectedOf countedRows
   pub told : map toldBy askedRows ≡ map (λ r. r .told) askedRows
   pub times : map (λ r. quiet (r .1) (r .2) (sourceOf (r .0))) quietRows ≡ map (λ r. r .3) quietRows
-  pub names : map (λ r. map (matters (wire (r .0))) (sourceRecords 7 (sourceOf both))) mattersRows ≡ map (λ r. r .1) mattersRows
+  pub names :
+      map (λ r. map (matters (wire (r .0))) (sourceRecords 7 (sourceOf both))) mattersRows
+      ≡ map (λ r. r .1) mattersRows

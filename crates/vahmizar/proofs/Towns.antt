@@ -7,6 +7,7 @@ use Prim.Native.Nat.{ℕ, _+_, _^_, _≤_, _<_}
 use native.Mathlib.Omega.{arith}
 use lib.ListN.{length, take, drop}
 use lib.Dec.{T}
+use Rattle.rules.specs.declared.replies.Outcome.{Outcome}
 use Rattle.rules.specs.declared.replies.Reply.{Reply}
 use Rattle.rules.specs.declared.replies.Response.{Response}
 use Rattle.rules.specs.Lists.{keep, joinAll, le, fromLE}
@@ -41,25 +42,54 @@ module _ {x : List ℕ} {q : Question} {ordinal : ℕ} (u : Asking x q ordinal) 
   answers : u .answer′ ≡ laid (responseNumbers (askResponse x q ordinal))
   answers = past 48 (u .answer) _ _ _ (u .fits) (u .asks .numbers)
 
-module _ (a b c d e f : ℕ) where
+-- ---- what a caller sees of a reply and an outcome but for one number: what is returned, and the bytes in front of that
+-- number and behind it
+
+abbrev laidOf : ℕ → Reply → List ℕ
+laidOf o a = laid (replyNumber a ∷ replyValues a ++ (o ∷ []))
+
+abbrev Seen : Type 0
+Seen = ℕ × List ℕ × List ℕ
+
+abbrev seen : ℕ → ℕ → ℕ → Reply → Seen
+seen i j o a = (replyNumber a, take i (laidOf o a), drop j (laidOf o a))
+
+abbrev seenOf : {x : List ℕ} {q : Question} {ordinal : ℕ} → ℕ → ℕ → Asking x q ordinal → Seen
+seenOf i j u = (u .r, take i (u .answer′), drop j (u .answer′))
+
+place-left-out : (o : ℕ) (a : Reply) → seen 24 32 o a ≡ seen 24 32 o (withoutPlace a)
+unfolding withoutPlace laid joinAll le
+place-left-out o (Reply.Found type lifetime place count) = refl
+place-left-out o Reply.NoMore = refl
+place-left-out o (Reply.Refused fault) = refl
+
+lifetime-left-out : (o : ℕ) (a : Reply) → seen 16 24 o a ≡ seen 16 24 o (withoutLifetime a)
+unfolding withoutLifetime laid joinAll le
+lifetime-left-out o (Reply.Found type lifetime place count) = refl
+lifetime-left-out o Reply.NoMore = refl
+lifetime-left-out o (Reply.Refused fault) = refl
+
+module _ (i j : ℕ) (without : Reply → Reply) (left-out : (o : ℕ) (a : Reply) → seen i j o a ≡ seen i j o (without a)) where
+  seen-same : (r s : Response) → r .outcome ≡ s .outcome → without (r .reply) ≡ without (s .reply)
+      → seen i j (outcomeNumber (r .outcome)) (r .reply) ≡ seen i j (outcomeNumber (s .outcome)) (s .reply)
+  seen-same r s e f =
+      left-out (outcomeNumber (r .outcome)) (r .reply)
+      ∙ ap₂ (λ (o : Outcome) (a : Reply). seen i j (outcomeNumber o) a) e f
+      ∙ sym (left-out (outcomeNumber (s .outcome)) (s .reply))
+
+  -- the same of the bytes of two calls
+  module _ {x y : List ℕ} {p q : Question} {ordinal : ℕ} (u : Asking x p ordinal) (v : Asking y q ordinal) where
+    calls-same : (askResponse x p ordinal .outcome ≡ askResponse y q ordinal .outcome)
+        → without (askResponse x p ordinal .reply) ≡ without (askResponse y q ordinal .reply)
+        → seenOf i j u ≡ seenOf i j v
+    unfolding responseNumbers
+    calls-same e f = rw (returns u, returns v, answers u, answers v) (seen-same (askResponse x p ordinal) (askResponse y q ordinal) e f)
+
+-- ---- the caller finds the data at the numbers that it reads
+
+module _ (x : List ℕ) (a b c d e f : ℕ) where
   abbrev six : List ℕ
   six = laid (a ∷ b ∷ c ∷ d ∷ e ∷ f ∷ [])
-
-  front-three : take 24 six ≡ laid (a ∷ b ∷ c ∷ [])
-  unfolding laid joinAll le
-  front-three = refl
-
-  back-two : drop 32 six ≡ laid (e ∷ f ∷ [])
-  unfolding laid joinAll le
-  back-two = refl
-
-  front-two : take 16 six ≡ laid (a ∷ b ∷ [])
-  unfolding laid joinAll le
-  front-two = refl
-
-  back-three : drop 24 six ≡ laid (d ∷ e ∷ f ∷ [])
-  unfolding laid joinAll le
-  back-three = refl
 
   fourth : take 8 (drop 24 six) ≡ le 8 d
   unfolding laid joinAll le
@@ -69,95 +99,36 @@ module _ (a b c d e f : ℕ) where
   unfolding laid joinAll le
   fifth = refl
 
--- ---- a reply's numbers that don't depend on its place, and on its lifetime
-
-abbrev frontOf : Reply → List ℕ
-frontOf (Reply.Found type lifetime place count) = 0 ∷ type ∷ lifetime .0 ∷ []
-frontOf Reply.NoMore = 18 ∷ 0 ∷ 0 ∷ []
-frontOf (Reply.Refused fault) = replyNumber (Reply.Refused fault) ∷ 0 ∷ 0 ∷ []
-
-abbrev backOf : ℕ → Reply → List ℕ
-backOf o (Reply.Found type lifetime place count) = count ∷ o ∷ []
-backOf o Reply.NoMore = 0 ∷ o ∷ []
-backOf o (Reply.Refused fault) = 0 ∷ o ∷ []
-
-abbrev typeIn : Reply → List ℕ
-typeIn (Reply.Found type lifetime place count) = 0 ∷ type ∷ []
-typeIn Reply.NoMore = 18 ∷ 0 ∷ []
-typeIn (Reply.Refused fault) = replyNumber (Reply.Refused fault) ∷ 0 ∷ []
-
-abbrev placeIn : ℕ → Reply → List ℕ
-placeIn o (Reply.Found type lifetime place count) = place ∷ count ∷ o ∷ []
-placeIn o Reply.NoMore = 0 ∷ 0 ∷ o ∷ []
-placeIn o (Reply.Refused fault) = 0 ∷ 0 ∷ o ∷ []
-
-number-unplaced : (a : Reply) → replyNumber a ≡ replyNumber (withoutPlace a)
-unfolding withoutPlace
-number-unplaced (Reply.Found type lifetime place count) = refl
-number-unplaced Reply.NoMore = refl
-number-unplaced (Reply.Refused fault) = refl
-
-number-unaged : (a : Reply) → replyNumber a ≡ replyNumber (withoutLifetime a)
-unfolding withoutLifetime
-number-unaged (Reply.Found type lifetime place count) = refl
-number-unaged Reply.NoMore = refl
-number-unaged (Reply.Refused fault) = refl
-
-module _ (o : ℕ) where
-  abbrev laidOf : Reply → List ℕ
-  laidOf a = laid (replyNumber a ∷ replyValues a ++ (o ∷ []))
-
-  front-is : (a : Reply) → take 24 (laidOf a) ≡ laid (frontOf (withoutPlace a))
-  unfolding withoutPlace
-  front-is (Reply.Found type lifetime place count) = front-three _ _ _ _ _ _
-  front-is Reply.NoMore = front-three _ _ _ _ _ _
-  front-is (Reply.Refused fault) = front-three _ _ _ _ _ _
-
-  back-is : (a : Reply) → drop 32 (laidOf a) ≡ laid (backOf o (withoutPlace a))
-  unfolding withoutPlace
-  back-is (Reply.Found type lifetime place count) = back-two _ _ _ _ _ _
-  back-is Reply.NoMore = back-two _ _ _ _ _ _
-  back-is (Reply.Refused fault) = back-two _ _ _ _ _ _
-
-  type-is : (a : Reply) → take 16 (laidOf a) ≡ laid (typeIn (withoutLifetime a))
-  unfolding withoutLifetime
-  type-is (Reply.Found type lifetime place count) = front-two _ _ _ _ _ _
-  type-is Reply.NoMore = front-two _ _ _ _ _ _
-  type-is (Reply.Refused fault) = front-two _ _ _ _ _ _
-
-  place-is : (a : Reply) → drop 24 (laidOf a) ≡ laid (placeIn o (withoutLifetime a))
-  unfolding withoutLifetime
-  place-is (Reply.Found type lifetime place count) = back-three _ _ _ _ _ _
-  place-is Reply.NoMore = back-three _ _ _ _ _ _
-  place-is (Reply.Refused fault) = back-three _ _ _ _ _ _
-
-  -- the caller finds the data at the numbers that it reads
-  at-numbers : (x : List ℕ) (a b c d e : ℕ) → d + e ≤ mostNeeded
-      → take (numberAt 4 (six a b c d e o)) (drop (numberAt 3 (six a b c d e o)) x) ≡ take e (drop d x)
-  at-numbers x a b c d e h =
-      let place : numberAt 3 (six a b c d e o) ≡ d = ap fromLE (fourth a b c d e o) ∙ from-le 8 (omega arith) in
-      let count : numberAt 4 (six a b c d e o) ≡ e = ap fromLE (fifth a b c d e o) ∙ from-le 8 (omega arith) in
+  at-numbers : d + e ≤ mostNeeded → take (numberAt 4 six) (drop (numberAt 3 six) x) ≡ take e (drop d x)
+  at-numbers h =
+      let place : numberAt 3 six ≡ d = ap fromLE fourth ∙ from-le 8 (omega arith) in
+      let count : numberAt 4 six ≡ e = ap fromLE fifth ∙ from-le 8 (omega arith) in
       ap₂ (λ (m n : ℕ). take m (drop n x)) count place
 
-  data-are : (x : List ℕ) (a : Reply) → Within mostNeeded a → take (numberAt 4 (laidOf a)) (drop (numberAt 3 (laidOf a)) x) ≡ handed x a
-  unfolding handed
-  data-are x (Reply.Found type lifetime place count) h = at-numbers x 0 type (lifetime .0) place count h
-  data-are x Reply.NoMore h = at-numbers x 18 0 0 0 0 (omega arith)
-  data-are x (Reply.Refused fault) h = at-numbers x (replyNumber (Reply.Refused fault)) 0 0 0 0 (omega arith)
+data-are : (x : List ℕ) (o : ℕ) (a : Reply) → Within mostNeeded a
+    → take (numberAt 4 (laidOf o a)) (drop (numberAt 3 (laidOf o a)) x) ≡ handed x a
+unfolding handed
+data-are x o (Reply.Found type lifetime place count) h = at-numbers x _ _ _ place count _ h
+data-are x o Reply.NoMore h = at-numbers x _ _ _ 0 0 _ (omega arith)
+data-are x o (Reply.Refused fault) h = at-numbers x _ _ _ 0 0 _ (omega arith)
 
 -- ---- two calls
 
 module _ {x y : List ℕ} {q : Question} {ordinal : ℕ} (u : Asking x q ordinal) (v : Asking y q ordinal) where
-  agree : AnswerAlike x y q ordinal → Within mostNeeded (askResponse x q ordinal .reply) → Within mostNeeded (askResponse y q ordinal .reply) → Agree u v
+  abbrev Small : List ℕ → Type 0
+  Small stream = Within mostNeeded (askResponse stream q ordinal .reply)
+
+  agree : AnswerAlike x y q ordinal → Small x → Small y → Agree u v
   unfolding AnswerAlike responseNumbers
   agree same small small′ =
       let r : Response = askResponse x q ordinal in
       let s : Response = askResponse y q ordinal in
+      let both = calls-same 24 32 withoutPlace place-left-out u v (same .outcome) (same .numbers) in
       record {
-        returned = returns u ∙ number-unplaced (r .reply) ∙ ap replyNumber (same .numbers) ∙ sym (number-unplaced (s .reply)) ∙ sym (returns v);
-        front = rw (answers u, answers v, front-is (outcomeNumber (r .outcome)) (r .reply), front-is (outcomeNumber (s .outcome)) (s .reply), same .numbers);
-        back = rw (answers u, answers v, back-is (outcomeNumber (r .outcome)) (r .reply), back-is (outcomeNumber (s .outcome)) (s .reply), same .numbers, same .outcome);
-        rdata = rw (answers u, answers v, data-are (outcomeNumber (r .outcome)) x (r .reply) small, data-are (outcomeNumber (s .outcome)) y (s .reply) small′) (same .rdata);
+        returned = ap (λ (n : Seen). n .0) both;
+        front = ap (λ (n : Seen). n .1) both;
+        back = ap (λ (n : Seen). n .2) both;
+        rdata = rw (answers u, answers v, data-are x (outcomeNumber (r .outcome)) (r .reply) small, data-are y (outcomeNumber (s .outcome)) (s .reply) small′) (same .rdata);
       }
 
 -- what a call hands out of the bytes that another wrote lies within them
@@ -190,9 +161,10 @@ the-calls-change-nothing-between-times serial x q earlier later ordinal u v ok r
     let s : Response = askResponse (wrote x) (askedAt later q) ordinal in
     let same : SameButLifetime (handedOut (x .source) serial (askedAt later q) ordinal) r s =
     rw (writes x) (between-times-asked-alike q earlier later ordinal serial (x .source) (x .out) ok room ordered limit t) in
+    let both = calls-same 16 24 withoutLifetime lifetime-left-out u v (same .outcome) (same .reply) in
     record {
-      returned = returns u ∙ number-unaged (r .reply) ∙ ap replyNumber (same .reply) ∙ sym (number-unaged (s .reply)) ∙ sym (returns v);
-      front = rw (answers u, answers v, type-is (outcomeNumber (r .outcome)) (r .reply), type-is (outcomeNumber (s .outcome)) (s .reply), same .reply);
-      back = rw (answers u, answers v, place-is (outcomeNumber (r .outcome)) (r .reply), place-is (outcomeNumber (s .outcome)) (s .reply), same .reply, same .outcome);
+      returned = ap (λ (n : Seen). n .0) both;
+      front = ap (λ (n : Seen). n .1) both;
+      back = ap (λ (n : Seen). n .2) both;
       lifetime = λ l. answers u ∙ ap (λ (a : Response). laid (responseNumbers a)) (same .lifetime l) ∙ sym (answers v);
     }

@@ -39,7 +39,7 @@ handedBy {records} u = take (numberAt 4 (u .answer′)) (drop (numberAt 3 (u .an
 
 -- ---- Two calls agree in what they return, in number, type, lifetime, length and outcome, and in the bytes handed out.
 -- Bytes 24 to 31 of an answer are its place.
-pub record Agree {x y : List ℕ} {q : Question} {ordinal : ℕ} (u : Asking x q ordinal) (v : Asking y q ordinal) : Type 0 where
+pub record Agree {x y : List ℕ} {q : Question} {n : ℕ} (u : Asking x q n) (v : Asking y q n) : Type 0 where
   pub returned : u .r ≡ v .r
   pub front : take 24 (u .answer′) ≡ take 24 (v .answer′)
   pub back : drop 32 (u .answer′) ≡ drop 32 (v .answer′)
@@ -49,7 +49,8 @@ pub record Agree {x y : List ℕ} {q : Question} {ordinal : ℕ} (u : Asking x q
 -- Rules out: a reader that takes a record of another location for the level or the control name, or counts it.
 unfoldable pub TheCallsHideOtherTowns : Type 0
 TheCallsHideOtherTowns =
-    (serial : ℕ) (x y : Call serial) (q : Question) (ordinal : ℕ) (u : Asking (wrote x) q ordinal) (v : Asking (wrote y) q ordinal)
+    (serial : ℕ) (x y : Call serial) (q : Question) (ordinal : ℕ)
+    (u : Asking (wrote x) q ordinal) (v : Asking (wrote y) q ordinal)
     → Accepted (x .source)
     → Accepted (y .source)
     → SameFor (q .client) serial (x .source) (y .source)
@@ -69,8 +70,10 @@ TheCallsNeedNoOtherNames =
     → ((r : Record) → T (mattersTo q r) → T (chosen r))
     → Agree u v
 
--- ---- Two calls agree in all but the lifetime, bytes 16 to 23 of an answer, and there too if what they hand out doesn't end.
-pub record AgreeButLifetime {x : List ℕ} {q q′ : Question} {ordinal : ℕ} (handed : Option Placed) (u : Asking x q ordinal) (v : Asking x q′ ordinal) : Type 0 where
+-- ---- Two calls agree in all but the lifetime, bytes 16 to 23 of an answer, and there too if what they hand out
+-- doesn't end.
+pub record AgreeButLifetime {x : List ℕ} {p q : Question} {n : ℕ}
+    (handed : Option Placed) (u : Asking x p n) (v : Asking x q n) : Type 0 where
   pub returned : u .r ≡ v .r
   pub front : take 16 (u .answer′) ≡ take 16 (v .answer′)
   pub back : drop 24 (u .answer′) ≡ drop 24 (v .answer′)
