@@ -16,7 +16,8 @@ use Rattle.rules.proofs.Tests.{pick-ok}
 use Rattle.rules.proofs.Lists.{All, nil, cons, all-append}
 
 pub data Carries (s : Shared) : Record → Type 0 where
-  carries : {owner lo rdata : List ℕ} {type ttl time : ℕ} → lo ≡ loBytes (s .lo) → time ≡ s .time .0 → Carries s (resource owner type lo ttl time rdata)
+  carries : {owner lo rdata : List ℕ} {type ttl time : ℕ} → lo ≡ loBytes (s .lo) → time ≡ s .time .0
+      → Carries s (resource owner type lo ttl time rdata)
 
 pub data Located : Record → Type 0 where
   located : {prefix lo : List ℕ} → Located (location prefix lo)
@@ -25,7 +26,8 @@ one-carries : (s : Shared) (owner : List ℕ) (type : ℕ) (rdata : List ℕ) �
 unfolding resourceOf
 one-carries s owner type rdata = carries refl refl
 
-soa-carries : (s : Shared) (owner : List ℕ) (type : ℕ) (rdata : List ℕ) → Carries s (resourceOf (soaShared s) owner type rdata)
+soa-carries : (s : Shared) (owner : List ℕ) (type : ℕ) (rdata : List ℕ)
+    → Carries s (resourceOf (soaShared s) owner type rdata)
 unfolding resourceOf soaShared
 soa-carries s owner type rdata = carries refl refl
 
@@ -88,13 +90,19 @@ otherKind b =
     (pick (eqb b 58) Kind.Generic
     Kind.Unknown))))))))))
 
+or-other : (b : Bool) (k x : Kind) → Other k → Other x → Other (pick b k x)
+or-other b k x h i = pick-ok Other b (λ t. h) (λ t. i)
+
 other-kind : (b : ℕ) → Other (otherKind b)
 unfolding otherKind
-other-kind b = pick-ok Other _ (λ t. tt) (λ t. pick-ok Other _ (λ t. tt) (λ t. pick-ok Other _ (λ t. tt) (λ t. pick-ok Other _ (λ t. tt) (λ t. pick-ok Other _ (λ t. tt) (λ t. pick-ok Other _ (λ t. tt) (λ t. pick-ok Other _ (λ t. tt) (λ t. pick-ok Other _ (λ t. tt) (λ t. pick-ok Other _ (λ t. tt) (λ t. pick-ok Other _ (λ t. tt) (λ t. pick-ok Other _ (λ t. tt) (λ t. tt)))))))))))
+other-kind b =
+    or-other _ _ _ tt (or-other _ _ _ tt (or-other _ _ _ tt (or-other _ _ _ tt (or-other _ _ _ tt (or-other _ _ _ tt
+    (or-other _ _ _ tt (or-other _ _ _ tt (or-other _ _ _ tt (or-other _ _ _ tt (or-other _ _ _ tt tt))))))))))
 
 module _ (serial : ℕ) where
   by-tests : (fields : List (List ℕ)) (i p : Bool) (x : Kind) → Other x
-      → Says (pick i [] (recordsOf serial (pick p Kind.Location x) fields)) p (pick (i || p) none (some (sharedOf (pick p Kind.Location x) fields)))
+      → Says (pick i [] (recordsOf serial (pick p Kind.Location x) fields)) p
+      (pick (i || p) none (some (sharedOf (pick p Kind.Location x) fields)))
   unfolding pick recordsOf
   by-tests fields true p x o = nothing refl
   by-tests fields false true x o = place (cons located nil)

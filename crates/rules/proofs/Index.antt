@@ -60,31 +60,40 @@ module _ (chosen : Record → Bool) (name : List ℕ) (covers : Covers chosen na
   passed : (client : List ℕ) (b : Best) (r : Record) → T (not (chosen r)) → better client b r ≡ b
   unfolding better isLocation
   passed client b (resource owner type lo ttl time rdata) t = refl
-  passed client b (location prefix lo) t = absurd (T-not (chosen (location prefix lo)) (covers .locations (location prefix lo) tt) t)
+  passed client b (location prefix lo) t =
+      absurd (T-not (chosen (location prefix lo)) (covers .locations (location prefix lo) tt) t)
 
-  best-only : (client : List ℕ) (b : Best) (ps : List Placed) → bestOf client b (map (λ p. p .rec) (only ps)) ≡ bestOf client b (map (λ p. p .rec) ps)
+  best-only : (client : List ℕ) (b : Best) (ps : List Placed)
+      → bestOf client b (map (λ p. p .rec) (only ps)) ≡ bestOf client b (map (λ p. p .rec) ps)
   unfolding keep bestOf
   best-only client b [] = refl
   best-only client b (p ∷ ps) =
-      pick-ok (λ (ks : List Placed). bestOf client b (map (λ p. p .rec) ks) ≡ bestOf client (better client b (p .rec)) (map (λ p. p .rec) ps)) (chosen (p .rec))
+      pick-ok
+      (λ (ks : List Placed). bestOf client b (map (λ p. p .rec) ks) ≡ bestOf client (better client b (p .rec)) (map (λ p. p .rec) ps))
+      (chosen (p .rec))
       (λ t. best-only client (better client b (p .rec)) ps)
       (λ t. best-only client b ps ∙ ap (λ (x : Best). bestOf client x (map (λ p. p .rec) ps)) (sym (passed client b (p .rec) t)))
 
-  location-only : (client : List ℕ) (ps : List Placed) → locationOf client (map (λ p. p .rec) (only ps)) ≡ locationOf client (map (λ p. p .rec) ps)
+  location-only : (client : List ℕ) (ps : List Placed)
+      → locationOf client (map (λ p. p .rec) (only ps)) ≡ locationOf client (map (λ p. p .rec) ps)
   unfolding locationOf
   location-only client ps = ap (λ (b : Best). b .lo) (best-only client _ ps)
 
-  typed-only : (type : ℕ) (n : List ℕ) → Has chosen (ordinaryOf n) → (ps : List Placed) → ordinaryOfType type n (only ps) ≡ ordinaryOfType type n ps
+  typed-only : (type : ℕ) (n : List ℕ) → Has chosen (ordinaryOf n) → (ps : List Placed)
+      → ordinaryOfType type n (only ps) ≡ ordinaryOfType type n ps
   unfolding ordinaryOfType
-  typed-only type n h ps = keep-chosen _ _ (λ p t. h (p .rec) (and-l (ordinaryOf n (p .rec)) (ofType type (p .rec)) t)) ps
+  typed-only type n h ps =
+      keep-chosen _ _ (λ p t. h (p .rec) (and-l (ordinaryOf n (p .rec)) (ofType type (p .rec)) t)) ps
 
-  control-only : (ps : List Placed) {ns : List (List ℕ)} → All (λ n. Has chosen (ordinaryOf n)) ns → controlOf (only ps) ns ≡ controlOf ps ns
+  control-only : (ps : List Placed) {ns : List (List ℕ)} → All (λ n. Has chosen (ordinaryOf n)) ns
+      → controlOf (only ps) ns ≡ controlOf ps ns
   unfolding controlOf
   control-only ps nil = refl
   control-only ps (cons {x = n} h a) = rw (typed-only 2 n h ps, control-only ps a)
 
   -- the control name is one of the names
-  control-has : (ps : List Placed) {ns : List (List ℕ)} → All (λ n. Has chosen (ordinaryOf n)) ns → OnSome (λ n. Has chosen (ordinaryOf n)) (controlOf ps ns)
+  control-has : (ps : List Placed) {ns : List (List ℕ)} → All (λ n. Has chosen (ordinaryOf n)) ns
+      → OnSome (λ n. Has chosen (ordinaryOf n)) (controlOf ps ns)
   unfolding controlOf
   control-has ps nil = tt
   control-has ps (cons h a) = pick-ok (OnSome (λ n. Has chosen (ordinaryOf n))) _ (λ t. h) (λ t. control-has ps a)
@@ -97,19 +106,23 @@ module _ (chosen : Record → Bool) (name : List ℕ) (covers : Covers chosen na
   level-only : (control : List ℕ) (ps : List Placed) → level control name (only ps) ≡ level control name ps
   unfolding level ancestorsTo
   level-only control ps =
-      ap firstFull (ap₂ _∷_ (keep-chosen _ _ (λ p t. all-head (covers .names) (p .rec) t) ps) (covered-only ps (all-keep _ (covers .wildcards))))
+      ap firstFull
+      (ap₂ _∷_ (keep-chosen _ _ (λ p t. all-head (covers .names) (p .rec) t) ps) (covered-only ps (all-keep _ (covers .wildcards))))
 
-  control-by : (type : ℕ) (ps : List Placed) (o : Option (List ℕ)) → OnSome (λ n. Has chosen (ordinaryOf n)) o → byControl type name (only ps) o ≡ byControl type name ps o
+  control-by : (type : ℕ) (ps : List Placed) (o : Option (List ℕ)) → OnSome (λ n. Has chosen (ordinaryOf n)) o
+      → byControl type name (only ps) o ≡ byControl type name ps o
   unfolding byControl
   control-by type ps none h = refl
   control-by type ps (some control) h = rw (typed-only 6 control h ps, typed-only 2 control h ps, level-only control ps)
 
-only-these : (q : Question) (chosen : Record → Bool) → Covers chosen (map lower (q .name)) → (ps : List Placed) → answers q (keep (λ p. chosen (p .rec)) ps) ≡ answers q ps
+only-these : (q : Question) (chosen : Record → Bool) → Covers chosen (map lower (q .name)) → (ps : List Placed)
+    → answers q (keep (λ p. chosen (p .rec)) ps) ≡ answers q ps
 unfolding answers
 only-these q chosen covers ps =
     let name : List ℕ = map lower (q .name) in
     let here : List ℕ = locationOf (q .client) (map (λ p. p .rec) ps) in
-    rw (location-only chosen name covers (q .client) ps, keep-swap (λ p. visible here (q .moment) (p .rec)) (λ p. chosen (p .rec)) ps, control-only chosen name covers _ (covers .names))
+    rw
+    (location-only chosen name covers (q .client) ps, keep-swap (λ p. visible here (q .moment) (p .rec)) (λ p. chosen (p .rec)) ps, control-only chosen name covers _ (covers .names))
     (control-by chosen name covers (q .type) _ _ (control-has chosen name covers _ (covers .names)))
 
 -- ---- the records that matter
@@ -131,11 +144,16 @@ module _ (name : List ℕ) where
   unfolding matters
   matters-covers = record {
     locations = λ r t. or-l (isLocation r || byName r) (byWildcard r) (or-l (isLocation r) (byName r) t);
-    names = all-weaken (λ n h r t. or-l (isLocation r || byName r) (byWildcard r) (or-r (isLocation r) (byName r) (h r t))) (any-has ordinaryOf (name ∷ ancestors name));
-    wildcards = all-weaken (λ n h r t. or-r (isLocation r || byName r) (byWildcard r) (h r t)) (any-has wildcardOf (ancestors name));
+    names =
+        all-weaken (λ n h r t. or-l (isLocation r || byName r) (byWildcard r) (or-r (isLocation r) (byName r) (h r t)))
+        (any-has ordinaryOf (name ∷ ancestors name));
+    wildcards =
+        all-weaken (λ n h r t. or-r (isLocation r || byName r) (byWildcard r) (h r t))
+        (any-has wildcardOf (ancestors name));
   }
 
-covers-more : (chosen wider : Record → Bool) (name : List ℕ) → ((r : Record) → T (chosen r) → T (wider r)) → Covers chosen name → Covers wider name
+covers-more : (chosen wider : Record → Bool) (name : List ℕ) → ((r : Record) → T (chosen r) → T (wider r))
+    → Covers chosen name → Covers wider name
 covers-more chosen wider name h c = record {
   locations = λ r t. h r (c .locations r t);
   names = all-weaken (λ n k r t. h r (k r t)) (c .names);
@@ -146,9 +164,12 @@ pub other-names-are-unseen : OtherNamesAreUnseen
 unfolding OtherNamesAreUnseen mattersTo
 other-names-are-unseen q ps = only-these q (matters (map lower (q .name))) (matters-covers (map lower (q .name))) ps
 
-only-bare : (q : Question) (chosen : Record → Bool) → Covers chosen (map lower (q .name)) → (rs : List Record) → answers q (map bare (keep chosen rs)) ≡ answers q (map bare rs)
+only-bare : (q : Question) (chosen : Record → Bool) → Covers chosen (map lower (q .name)) → (rs : List Record)
+    → answers q (map bare (keep chosen rs)) ≡ answers q (map bare rs)
 unfolding bare
-only-bare q chosen covers rs = ap (answers q) (sym (keep-map bare (λ p. chosen (p .rec)) chosen (λ r. refl) rs)) ∙ only-these q chosen covers (map bare rs)
+only-bare q chosen covers rs =
+    ap (answers q) (sym (keep-map bare (λ p. chosen (p .rec)) chosen (λ r. refl) rs))
+    ∙ only-these q chosen covers (map bare rs)
 
 pub these-alone-decide : TheseAloneDecide
 unfolding TheseAloneDecide mattersTo
@@ -160,7 +181,8 @@ these-alone-decide q rs others e =
 pub an-index-is-enough : AnIndexIsEnough
 unfolding AnIndexIsEnough mattersTo
 an-index-is-enough q n serial source out chosen ok room h =
-    let covers : Covers chosen (map lower (q .name)) = covers-more (matters (map lower (q .name))) chosen (map lower (q .name)) h (matters-covers (map lower (q .name))) in
+    let covers : Covers chosen (map lower (q .name)) =
+    covers-more (matters (map lower (q .name))) chosen (map lower (q .name)) h (matters-covers (map lower (q .name))) in
     let rs : List Record = sourceRecords serial source in
     rw (written source serial out ok room)
     (asked-alike q n (source-ok serial source ok) (all-keep chosen (source-ok serial source ok)) (same-bare q rs (keep chosen rs) (sym (only-bare q chosen covers rs))))

@@ -31,7 +31,8 @@ unfolding bestOf better
 best-carried c b nil = refl
 best-carried c b (cons (carries e f) a) = best-carried c b a
 
-best-says : (c : List ℕ) (best : Best) {rs : List Record} {b : Bool} {o : Option Shared} → Says rs b o → T (not b) → bestOf c best rs ≡ best
+best-says : (c : List ℕ) (best : Best) {rs : List Record} {b : Bool} {o : Option Shared} → Says rs b o → T (not b)
+    → bestOf c best rs ≡ best
 unfolding bestOf
 best-says c best (nothing e) t = rw e
 best-says c best (place a) t = absurd t
@@ -41,12 +42,14 @@ best-says c best (shares s n a) t = best-carried c best a
 abbrev pub recordsIn : ℕ → List (List ℕ) → List Record
 recordsIn serial ls = joinAll (map (strippedRecords serial) ls)
 
-by-stripped : (serial : ℕ) (ls : List (List ℕ)) → joinAll (map (lineRecords serial) ls) ≡ recordsIn serial (map strip ls)
+by-stripped : (serial : ℕ) (ls : List (List ℕ))
+    → joinAll (map (lineRecords serial) ls) ≡ recordsIn serial (map strip ls)
 unfolding joinAll lineRecords
 by-stripped serial [] = refl
 by-stripped serial (l ∷ ls) = ap (λ (rs : List Record). strippedRecords serial (strip l) ++ rs) (by-stripped serial ls)
 
-pub records-by-lines : (serial : ℕ) (source : List ℕ) → sourceRecords serial source ≡ recordsIn serial (strippedLines source)
+pub records-by-lines : (serial : ℕ) (source : List ℕ)
+    → sourceRecords serial source ≡ recordsIn serial (strippedLines source)
 unfolding sourceRecords strippedLines
 records-by-lines serial source = by-stripped serial (linesOf source)
 
@@ -56,14 +59,20 @@ module _ (serial : ℕ) (client : List ℕ) where
   unfolding joinAll keep
   best-lines best [] = refl
   best-lines best (l ∷ ls) =
+      let one : List Record = strippedRecords serial l in
       let rest : List Record = recordsIn serial ls in
-      pick-ok (λ (ks : List (List ℕ)). bestOf client best (strippedRecords serial l ++ rest) ≡ bestOf client best (recordsIn serial ks)) _
-      (λ t. best-append client best (strippedRecords serial l) rest ∙ best-lines (bestOf client best (strippedRecords serial l)) ls ∙ sym (best-append client best (strippedRecords serial l) _))
-      (λ t. best-append client best (strippedRecords serial l) rest ∙ ap (λ (x : Best). bestOf client x rest) (best-says client best (stripped-says serial l) t) ∙ best-lines best ls)
+      pick-ok (λ (ks : List (List ℕ)). bestOf client best (one ++ rest) ≡ bestOf client best (recordsIn serial ks)) _
+      (λ t. best-append client best one rest ∙ best-lines (bestOf client best one) ls ∙ sym (best-append client best one _))
+      (λ t.
+      best-append client best one rest
+      ∙ ap (λ (x : Best). bestOf client x rest) (best-says client best (stripped-says serial l) t)
+      ∙ best-lines best ls)
 
-  location-by-lines : (source : List ℕ) → locationOf client (sourceRecords serial source) ≡ locationOf client (recordsIn serial (locationLines source))
+  location-by-lines : (source : List ℕ)
+      → locationOf client (sourceRecords serial source) ≡ locationOf client (recordsIn serial (locationLines source))
   unfolding locationOf locationLines
-  location-by-lines source = rw (records-by-lines serial source) (ap (λ (x : Best). x .lo) (best-lines _ (strippedLines source)))
+  location-by-lines source =
+      rw (records-by-lines serial source) (ap (λ (x : Best). x .lo) (best-lines _ (strippedLines source)))
 
 -- ---- the visible records: the lines without lo and with the client's
 
@@ -80,28 +89,39 @@ location-hidden : (here : List ℕ) (moment : ℕ) (r : Record) → Located r �
 unfolding visible
 location-hidden here moment (location p lo) h = tt
 
-other-lo-hidden : (here : List ℕ) (moment : ℕ) (s : Shared) (r : Record) → T (not (hasLoOf here (some s))) → Carries s r → T (not (visible here moment r))
+other-lo-hidden : (here : List ℕ) (moment : ℕ) (s : Shared) (r : Record) → T (not (hasLoOf here (some s))) → Carries s r
+    → T (not (visible here moment r))
 unfolding visible hasLoOf
-other-lo-hidden here moment s (resource owner type lo ttl time rdata) t (carries e f) = rw e (no-and (eqb (length (loBytes (s .lo))) 0 || sameBytes (loBytes (s .lo)) here) (inTime moment ttl time) t)
+other-lo-hidden here moment s (resource owner type lo ttl time rdata) t (carries e f) =
+    rw e (no-and (eqb (length (loBytes (s .lo))) 0 || sameBytes (loBytes (s .lo)) here) (inTime moment ttl time) t)
 
-says-hidden : (here : List ℕ) (moment : ℕ) {rs : List Record} {b : Bool} {o : Option Shared} → Says rs b o → T (not (hasLoOf here o)) → keep (visible here moment) rs ≡ []
+says-hidden : (here : List ℕ) (moment : ℕ) {rs : List Record} {b : Bool} {o : Option Shared} → Says rs b o
+    → T (not (hasLoOf here o)) → keep (visible here moment) rs ≡ []
 unfolding keep
 says-hidden here moment (nothing e) t = rw e
 says-hidden here moment (place a) t = keep-none (visible here moment) (all-weaken (location-hidden here moment) a)
-says-hidden here moment (shares s n a) t = keep-none (visible here moment) (all-weaken (λ r c. other-lo-hidden here moment s r t c) a)
+says-hidden here moment (shares s n a) t =
+    keep-none (visible here moment) (all-weaken (λ r c. other-lo-hidden here moment s r t c) a)
 
 module _ (serial : ℕ) (here : List ℕ) (moment : ℕ) where
+  abbrev seen : List Record → List Record
+  seen rs = keep (visible here moment) rs
+
   seen-lines : (ls : List (List ℕ))
-      → keep (visible here moment) (recordsIn serial ls) ≡ keep (visible here moment) (recordsIn serial (keep (λ l. hasLoOf here (sharedIn l)) ls))
+      → seen (recordsIn serial ls) ≡ seen (recordsIn serial (keep (λ l. hasLoOf here (sharedIn l)) ls))
   unfolding joinAll keep
   seen-lines [] = refl
   seen-lines (l ∷ ls) =
+      let one : List Record = strippedRecords serial l in
       let rest : List Record = recordsIn serial ls in
-      pick-ok (λ (ks : List (List ℕ)). keep (visible here moment) (strippedRecords serial l ++ rest) ≡ keep (visible here moment) (recordsIn serial ks)) _
-      (λ t. keep-append _ (strippedRecords serial l) rest ∙ ap (λ (x : List Record). keep (visible here moment) (strippedRecords serial l) ++ x) (seen-lines ls) ∙ sym (keep-append _ (strippedRecords serial l) _))
-      (λ t. keep-append _ (strippedRecords serial l) rest ∙ ap (λ (x : List Record). x ++ keep (visible here moment) rest) (says-hidden here moment (stripped-says serial l) t) ∙ seen-lines ls)
+      pick-ok (λ (ks : List (List ℕ)). seen (one ++ rest) ≡ seen (recordsIn serial ks)) _
+      (λ t. keep-append _ one rest ∙ ap (λ (x : List Record). seen one ++ x) (seen-lines ls) ∙ sym (keep-append _ one _))
+      (λ t.
+      keep-append _ one rest
+      ∙ ap (λ (x : List Record). x ++ seen rest) (says-hidden here moment (stripped-says serial l) t)
+      ∙ seen-lines ls)
 
-  seen-by-lines : (source : List ℕ) → keep (visible here moment) (sourceRecords serial source) ≡ keep (visible here moment) (recordsIn serial (linesFor here source))
+  seen-by-lines : (source : List ℕ) → seen (sourceRecords serial source) ≡ seen (recordsIn serial (linesFor here source))
   unfolding linesFor
   seen-by-lines source = rw (records-by-lines serial source) (seen-lines (strippedLines source))
 

@@ -32,35 +32,46 @@ Within limit (Reply.Found type lifetime place count) = place + count ≤ limit
 Within limit Reply.NoMore = Unit {0}
 Within limit (Reply.Refused fault) = Unit {0}
 
-ends-within : (n : ℕ) (rs : List Record) (limit : ℕ) → n + sizeOfAll rs ≤ limit → All (λ p. p .end ≤ limit) (placedFrom n rs)
+ends-within : (n : ℕ) (rs : List Record) (limit : ℕ) → n + sizeOfAll rs ≤ limit
+    → All (λ p. p .end ≤ limit) (placedFrom n rs)
 unfolding placedFrom sizeOfAll
 ends-within n [] limit h = nil
-ends-within n (r ∷ rs) limit h = cons {x = record { rec = r; end = n + size r }} (omega arith) (ends-within (n + size r) rs limit (omega arith))
+ends-within n (r ∷ rs) limit h =
+    cons {x = record { rec = r; end = n + size r }} (omega arith) (ends-within (n + size r) rs limit (omega arith))
 
-found-within : (stream : List ℕ) (limit moment : ℕ) (o : Option Placed) → OnSome (Held stream) o → OnSome (λ p. p .end ≤ limit) o → Within limit (replyOf moment o)
+found-within : (stream : List ℕ) (limit moment : ℕ) (o : Option Placed) → OnSome (Held stream) o
+    → OnSome (λ p. p .end ≤ limit) o → Within limit (replyOf moment o)
 unfolding replyOf Held
 found-within stream limit moment none h k = tt
 found-within stream limit moment (some p) h k = omega (arith, h .1)
 
-refused-within : (limit : ℕ) (b : Bool) (f : AskFault) (r : Response) → Within limit (r .reply) → Within limit (pick b (refusal f) r .reply)
+refused-within : (limit : ℕ) (b : Bool) (f : AskFault) (r : Response) → Within limit (r .reply)
+    → Within limit (pick b (refusal f) r .reply)
 unfolding refusal
 refused-within limit b f r h = pick-ok (λ (x : Response). Within limit (x .reply)) b (λ t. tt) (λ t. h)
 
-pub asked-within : (q : Question) (n : ℕ) (limit : ℕ) {rs : List Record} → All Ok rs → sizeOfAll rs ≤ limit → Within limit (askResponse (bytesOf rs) q n .reply)
+pub asked-within : (q : Question) (n : ℕ) (limit : ℕ) {rs : List Record} → All Ok rs → sizeOfAll rs ≤ limit
+    → Within limit (askResponse (bytesOf rs) q n .reply)
 unfolding responseFrom responseOf
 asked-within q n limit {rs} ok h =
     let list : List Placed = answers q (placedFrom 0 rs) .list in
-    let reply = found-within (bytesOf rs) limit (q .moment) (getElem? list n) (all-at n (answers-all q (held [] 0 rs refl))) (all-at n (answers-all q (ends-within 0 rs limit (omega arith)))) in
-    rw (asked-records q n ok) (refused-within limit _ _ _ (refused-within limit _ _ _ (refused-within limit _ _ _ reply)))
+    let reply =
+    found-within (bytesOf rs) limit (q .moment) (getElem? list n) (all-at n (answers-all q (held [] 0 rs refl)))
+    (all-at n (answers-all q (ends-within 0 rs limit (omega arith)))) in
+    rw (asked-records q n ok)
+    (refused-within limit _ _ _ (refused-within limit _ _ _ (refused-within limit _ _ _ reply)))
 
 -- ---- the bytes of an accepted source
 
-lines-size : (serial : ℕ) (ls : List (List ℕ)) → T (all isGood ls) → sizeOfAll (joinAll (map (lineRecords serial) ls)) ≤ length ls * 16384
+lines-size : (serial : ℕ) (ls : List (List ℕ)) → T (all isGood ls)
+    → sizeOfAll (joinAll (map (lineRecords serial) ls)) ≤ length ls * 16384
 unfolding joinAll all sizeOfAll
 lines-size serial [] t = omega arith
 lines-size serial (l ∷ ls) t =
-    let one : sizeOfAll (lineRecords serial l) ≤ 16384 = line-size serial l (is-true (isGood l) (and-l (isGood l) (all isGood ls) t)) in
-    omega (arith, one, sizes-add (lineRecords serial l) (joinAll (map (lineRecords serial) ls)), lines-size serial ls (and-r (isGood l) (all isGood ls) t))
+    let one : sizeOfAll (lineRecords serial l) ≤ 16384 =
+    line-size serial l (is-true (isGood l) (and-l (isGood l) (all isGood ls) t)) in
+    omega
+    (arith, one, sizes-add (lineRecords serial l) (joinAll (map (lineRecords serial) ls)), lines-size serial ls (and-r (isGood l) (all isGood ls) t))
 
 onto-length : (b : ℕ) (ls : List (List ℕ)) → length (ontoFirst b ls) ≤ suc (length ls)
 unfolding ontoFirst

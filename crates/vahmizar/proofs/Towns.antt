@@ -42,8 +42,8 @@ module _ {x : List ℕ} {q : Question} {ordinal : ℕ} (u : Asking x q ordinal) 
   answers : u .answer′ ≡ laid (responseNumbers (askResponse x q ordinal))
   answers = past 48 (u .answer) _ _ _ (u .fits) (u .asks .numbers)
 
--- ---- what a caller sees of a reply and an outcome but for one number: what is returned, and the bytes in front of that
--- number and behind it
+-- ---- what a caller sees of a reply and an outcome but for one number: what is returned, and the bytes in front of
+-- that number and behind it
 
 abbrev laidOf : ℕ → Reply → List ℕ
 laidOf o a = laid (replyNumber a ∷ replyValues a ++ (o ∷ []))
@@ -69,7 +69,8 @@ lifetime-left-out o (Reply.Found type lifetime place count) = refl
 lifetime-left-out o Reply.NoMore = refl
 lifetime-left-out o (Reply.Refused fault) = refl
 
-module _ (i j : ℕ) (without : Reply → Reply) (left-out : (o : ℕ) (a : Reply) → seen i j o a ≡ seen i j o (without a)) where
+module _ (i j : ℕ) (without : Reply → Reply)
+    (left-out : (o : ℕ) (a : Reply) → seen i j o a ≡ seen i j o (without a)) where
   seen-same : (r s : Response) → r .outcome ≡ s .outcome → without (r .reply) ≡ without (s .reply)
       → seen i j (outcomeNumber (r .outcome)) (r .reply) ≡ seen i j (outcomeNumber (s .outcome)) (s .reply)
   seen-same r s e f =
@@ -83,7 +84,9 @@ module _ (i j : ℕ) (without : Reply → Reply) (left-out : (o : ℕ) (a : Repl
         → without (askResponse x p ordinal .reply) ≡ without (askResponse y q ordinal .reply)
         → seenOf i j u ≡ seenOf i j v
     unfolding responseNumbers
-    calls-same e f = rw (returns u, returns v, answers u, answers v) (seen-same (askResponse x p ordinal) (askResponse y q ordinal) e f)
+    calls-same e f =
+        rw (returns u, returns v, answers u, answers v)
+        (seen-same (askResponse x p ordinal) (askResponse y q ordinal) e f)
 
 -- ---- the caller finds the data at the numbers that it reads
 
@@ -128,14 +131,19 @@ module _ {x y : List ℕ} {q : Question} {ordinal : ℕ} (u : Asking x q ordinal
         returned = ap (λ (n : Seen). n .0) both;
         front = ap (λ (n : Seen). n .1) both;
         back = ap (λ (n : Seen). n .2) both;
-        rdata = rw (answers u, answers v, data-are x (outcomeNumber (r .outcome)) (r .reply) small, data-are y (outcomeNumber (s .outcome)) (s .reply) small′) (same .rdata);
+        rdata =
+            rw
+            (answers u, answers v, data-are x (outcomeNumber (r .outcome)) (r .reply) small, data-are y (outcomeNumber (s .outcome)) (s .reply) small′)
+            (same .rdata);
       }
 
 -- what a call hands out of the bytes that another wrote lies within them
-small-by : {serial : ℕ} (x : Call serial) (q : Question) (ordinal : ℕ) → Accepted (x .source) → Roomy x → Within mostNeeded (askResponse (wrote x) q ordinal .reply)
+small-by : {serial : ℕ} (x : Call serial) (q : Question) (ordinal : ℕ) → Accepted (x .source) → Roomy x
+    → Within mostNeeded (askResponse (wrote x) q ordinal .reply)
 unfolding bytesNeeded
 small-by {serial} x q ordinal ok room =
-    rw (wrote-records x ok room) (asked-within q ordinal mostNeeded (source-ok serial (x .source) ok) (needed-few serial (x .source) ok))
+    rw (wrote-records x ok room)
+    (asked-within q ordinal mostNeeded (source-ok serial (x .source) ok) (needed-few serial (x .source) ok))
 
 pub the-calls-hide-other-towns : TheCallsHideOtherTowns
 unfolding TheCallsHideOtherTowns OtherTownsAreUnasked
@@ -160,7 +168,8 @@ the-calls-change-nothing-between-times serial x q earlier later ordinal u v ok r
     let r : Response = askResponse (wrote x) (askedAt earlier q) ordinal in
     let s : Response = askResponse (wrote x) (askedAt later q) ordinal in
     let same : SameButLifetime (handedOut (x .source) serial (askedAt later q) ordinal) r s =
-    rw (writes x) (between-times-asked-alike q earlier later ordinal serial (x .source) (x .out) ok room ordered limit t) in
+    rw (writes x)
+    (between-times-asked-alike q earlier later ordinal serial (x .source) (x .out) ok room ordered limit t) in
     let both = calls-same 16 24 withoutLifetime lifetime-left-out u v (same .outcome) (same .reply) in
     record {
       returned = ap (λ (n : Seen). n .0) both;
