@@ -1,6 +1,6 @@
 -- 01, Bench examples: the tables hold, by computation alone.
 use mathlib.Core.Path.{refl}
-use Rattle.rules.specs.Lists.{pick, valueOr, isSome, keep, all, any, joinAll, has, sameBytes, beginsWith, ontoFirst, splitOn, le, be, fromLE, fromBE, lower}
+use Rattle.rules.specs.Lists.{pick, valueOr, isSome, keep, all, joinAll, has, sameBytes, beginsWith, ontoFirst, splitOn, le, be, fromLE, fromBE, lower}
 use Rattle.rules.specs.Kinds.{linesOf, blank, beforeStripped, strip, ignored, kindOf, common, meanings, fieldCount, defaultTtl, fieldAt}
 use Rattle.rules.specs.Names.{nameByte, label, longestName, ifNotTooLong, nameFrom, nameOf, wireIn, wireOf, labels, isWire}
 use Rattle.rules.specs.Fields.{digit, decimalFrom, numberOf, largestTtl, largestShort, largestLong, lowerHexDigit, hexValue, hexFrom, group, groupBytes, firstIsZero, octet, addressIf, octetByte, addressOf, prefixOf, timeOf, letter, loOf, octal, ontoText, textOf, unless, nameFault, needed, optional, reserved, typeFault, faultOf}
@@ -14,13 +14,9 @@ use Rattle.rules.specs.Examples.{refusals, refusalCases, refusalsExpecte
 use Rattle.rules.specs.OutcomeExamples.{Row, toldFrom, toldOf, asks, row, found, none, one, nothing, town, referral, from, at, starts, ends, twoSides, otherSoas, delegated, rows, OutcomeExamplesHold}
 use Rattle.rules.specs.Joining.{ended, endedButLast, closed, joinedFiles}
 use Rattle.rules.specs.JoiningExamples.{joined, saidOf, north, south, joinedRows, joinedBytes, JoiningExamplesHold}
-use Rattle.rules.specs.Towns.{strippedLines, isLocationLine, sharedIn, hasLoOf, locationLines, linesFor, withoutPlace, handed}
-use Rattle.rules.specs.Moments.{quietLine, quiet}
-use Rattle.rules.specs.Index.{isLocation, matters}
-use Rattle.rules.specs.TownExamples.{both, eastAlone, eastClient, westClient, noClient, counted, countedOf, expectedOf, towns, countedRows, asked, toldAt, toldUpTo, toldBy, address, nobody, hosts, changeAt, changes, askedRows, quietRows, mattersRows, TownExamplesHold}
 
 -- what the rules say of a case; whoever unfolds this unfolds the rules, which its line names
-saying : Case → Said
+unfoldable pub saying : Case → Said
 unfolding pick valueOr isSome keep all joinAll has sameBytes beginsWith ontoFirst splitOn le be fromLE fromBE lower linesOf blank beforeStripped strip ignored kindOf common meanings fieldCount defaultTtl fieldAt nameByte label longestName ifNotTooLong nameFrom nameOf wireIn wireOf labels isWire digit decimalFrom numberOf largestTtl largestShort largestLong lowerHexDigit hexValue hexFrom group groupBytes firstIsZero octet addressIf octetByte addressOf prefixOf timeOf letter loOf octal ontoText textOf unless nameFault needed optional reserved typeFault faultOf loBytes numberOr shortAt longAt sharedOf resourceOf hostName ns mx srv hostmaster contactOf joinedNames decimal decimalLabel hexDigit nibbleLabels inAddrArpa ip6Arpa reverseName chunksFrom chunks soaData srvData addressType addressRecords soaShared addressIn recordsOf wild unstarred keyOf flagAndLo rdataOf fixedOf dataOf encode size sizeOfAll bytesOf numbersOf isDone noFault thenFault fieldsFault joinedFault wholeLine kindFault strippedFault longestLine lineFault isGood strippedRecords lineRecords longestSource sourceRecords answer judgeLines judgeSource ifRoom compileAnswer compileOutput placedFrom matches better bestOf locationOf inTime visible lifetimeOf ordinaryOf wildcardOf ancestorsFrom ancestors ancestorsTo firstFull level ofType ordinaryOfType isFull controlOf byLevel inZone byControl answers lowered ordinaryKey wildcardKey isLo momentEnd behindLo withLo byFlag resourceIn locationIn recordIn ontoRecords decodeOne decodeFrom decode responseNumbers typeOf replyOf responseOf responseFrom refusal responseDecoded isClient askResponse said sourceOf tell rdataAt
 saying c = said c
 
@@ -39,7 +35,3 @@ outcome-examples-hold = refl
 pub joining-examples-hold : JoiningExamplesHold
 unfolding saying ended endedButLast closed joinedFiles joined saidOf north south joinedRows joinedBytes
 joining-examples-hold = record { answers = refl; bytes = refl; ends = refl }
-
-pub town-examples-hold : TownExamplesHold
-unfolding saying wire strippedLines isLocationLine sharedIn hasLoOf locationLines linesFor withoutPlace handed quietLine quiet any isLocation matters both eastAlone eastClient westClient noClient counted countedOf expectedOf towns countedRows asked toldAt toldUpTo toldBy address nobody hosts changeAt changes askedRows quietRows mattersRows
-town-examples-hold = record { lines = refl; told = refl; times = refl; names = refl }

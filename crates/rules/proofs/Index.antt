@@ -11,7 +11,7 @@ use Rattle.rules.specs.Records.{Record, location, resource}
 use Rattle.rules.specs.Answers.{sourceRecords}
 use Rattle.rules.specs.Questions.{Question, Placed, Best, better, bestOf, locationOf, visible, ordinaryOf, wildcardOf, ancestors, ancestorsTo, firstFull, level, ofType, ordinaryOfType, isFull, controlOf, inZone, byControl, answers}
 use Rattle.rules.specs.Towns.{AnswerAlike}
-use Rattle.rules.specs.Index.{isLocation, matters, mattersTo, OtherNamesAreUnseen, TheseAloneDecide, AnIndexIsEnough}
+use Rattle.rules.specs.Index.{isLocation, matters, mattersTo, OtherNamesAreUnseen, TheseAloneDecide, TheseAloneAreAsked, AnIndexIsEnough}
 use Rattle.rules.proofs.Tests.{and-l, or-l, or-r, pick-ok}
 use Rattle.rules.proofs.Lists.{OnSome, All, nil, cons, all-head, all-tail, all-keep, all-weaken, keep-map}
 use Rattle.rules.proofs.Meaning.{source-ok, written}
@@ -177,6 +177,12 @@ these-alone-decide q rs others e =
     let covers : Covers (matters (map lower (q .name))) (map lower (q .name)) = matters-covers (map lower (q .name)) in
     same-bare q rs others
     (sym (only-bare q (matters (map lower (q .name))) covers rs) ∙ ap (λ (xs : List Record). answers q (map bare xs)) e ∙ only-bare q (matters (map lower (q .name))) covers others)
+
+pub these-alone-are-asked : TheseAloneAreAsked
+unfolding TheseAloneAreAsked TheseAloneDecide
+these-alone-are-asked q n serialA serialB a b outA outB okA okB roomA roomB e =
+    rw (written a serialA outA okA roomA, written b serialB outB okB roomB)
+    (asked-alike q n (source-ok serialA a okA) (source-ok serialB b okB) (these-alone-decide q _ _ e))
 
 pub an-index-is-enough : AnIndexIsEnough
 unfolding AnIndexIsEnough mattersTo

@@ -21,3 +21,4 @@ pub mod Joining
 pub mod Sizes
 pub mod Within
 pub mod Bench
+pub mod TownExamples

@@ -22,7 +22,7 @@ use Rattle.rules.specs.Answers.{sourceRecords}
 use Rattle.rules.specs.Questions.{Question, Placed, placedFrom, locationOf, inTime, visible, lifetimeOf, Result, answers}
 use Rattle.rules.specs.Reading.{typeOf, momentEnd, isClient, replyOf, responseOf, responseFrom, refusal, askResponse}
 use Rattle.rules.specs.Towns.{strippedLines, sharedIn, resultFrom}
-use Rattle.rules.specs.Moments.{quietLine, quiet, askedAt, ends, BetweenTimesNothingChanges, withoutLifetime, lasts, SameButLifetime, handedOut, BetweenTimesAskedAlike}
+use Rattle.rules.specs.Moments.{quietLine, quiet, askedAt, OnlyTheMomentChanges, ends, BetweenTimesNothingChanges, withoutLifetime, lasts, SameButLifetime, handedOut, BetweenTimesAskedAlike}
 use Rattle.rules.proofs.Tests.{is-true, is-false, and-l, and-r, pick-no}
 use Rattle.rules.proofs.Lists.{All, nil, cons, all-append, all-weaken}
 use Rattle.rules.proofs.Records.{Ok}
@@ -106,6 +106,10 @@ module _ (earlier later : ℕ) (ordered : earlier ≤ later) where
   unfolding keep SameSeen
   keep-same-seen here nil = refl
   keep-same-seen here (cons h a) = rw (h, keep-same-seen here a)
+
+pub only-the-moment-changes : OnlyTheMomentChanges
+unfolding OnlyTheMomentChanges askedAt
+only-the-moment-changes q = refl
 
 lifetime-same : (earlier later : ℕ) (r : Record) → T (not (ends r)) → lifetimeOf earlier r ≡ lifetimeOf later r
 unfolding lifetimeOf ends

@@ -12,7 +12,7 @@ use Rattle.rules.specs.Kinds.{linesOf, strip}
 use Rattle.rules.specs.Records.{Record, location, resource, loBytes}
 use Rattle.rules.specs.Answers.{strippedRecords, lineRecords, sourceRecords}
 use Rattle.rules.specs.Questions.{Best, better, bestOf, locationOf, inTime, visible}
-use Rattle.rules.specs.Towns.{strippedLines, isLocationLine, sharedIn, hasLoOf, locationLines, linesFor, SameFor, OtherTownsAreUnseen, OtherTownsAreUnasked}
+use Rattle.rules.specs.Towns.{strippedLines, isLocationLine, sharedIn, hasLoOf, locationLines, linesFor, SameFor, TheseLinesAreAll, OtherTownsAreUnseen, OtherTownsAreUnasked}
 use Rattle.rules.proofs.Tests.{pick-ok, pick-no}
 use Rattle.rules.proofs.Lists.{All, nil, cons, all-weaken, keep-append}
 use Rattle.rules.proofs.Meaning.{source-ok, written}
@@ -143,6 +143,10 @@ module _ (client : List ℕ) (serial : ℕ) (a b : List ℕ) (same : SameFor cli
       ∙ ap (λ (ls : List (List ℕ)). keep (visible here moment) (recordsIn serial ls)) (same .others)
       ∙ sym (seen-by-lines serial here moment b)
       ∙ ap (λ (h : List ℕ). keep (visible h moment) (sourceRecords serial b)) same-location
+
+pub these-lines-are-all : TheseLinesAreAll
+unfolding TheseLinesAreAll
+these-lines-are-all client serial a b e f = record { locations = e; others = f }
 
 pub other-towns-are-unseen : OtherTownsAreUnseen
 unfolding OtherTownsAreUnseen

@@ -1,4 +1,5 @@
--- What a name server's index rests on: which records an answer depends on; proofs/Index.antt proves it.
+-- What a name server's index rests on: "an answer depends only on the location records and on the records whose owner is
+-- the asked name, one of its ancestors, or a wildcard of one, in their order". proofs/Index.antt proves it.
 use Prim.Native.Nat.{ℕ, _≤_}
 use mathlib.Core.Path.{_≡_}
 use mathlib.Core.Bool.{Bool, true, false, _||_}
@@ -32,14 +33,25 @@ unfoldable pub OtherNamesAreUnseen : Type 0
 OtherNamesAreUnseen =
     (q : Question) (ps : List Placed) → answers q (keep (λ p. mattersTo q (p .rec)) ps) ≡ answers q ps
 
--- So these alone decide, in their order: whoever else stands among them, and wherever they stand.
+-- So these alone decide, in their order: whatever else stands among them, and wherever they stand.
 unfoldable pub TheseAloneDecide : Type 0
 TheseAloneDecide =
     (q : Question) (rs others : List Record)
     → keep (mattersTo q) rs ≡ keep (mattersTo q) others
     → SameResult (resultFrom rs q) (resultFrom others q)
 
--- The same of asking: the bytes of any choice of a source's records that has at least these, in their order.
+-- The same of asking two sources, each with a serial of its own.
+unfoldable pub TheseAloneAreAsked : Type 0
+TheseAloneAreAsked =
+    (q : Question) (ordinal serialA serialB : ℕ) (a b outA outB : List ℕ)
+    → Accepted a
+    → Accepted b
+    → bytesNeeded serialA a ≤ length outA
+    → bytesNeeded serialB b ≤ length outB
+    → keep (mattersTo q) (sourceRecords serialA a) ≡ keep (mattersTo q) (sourceRecords serialB b)
+    → AnswerAlike (compiledBytes a serialA outA) (compiledBytes b serialB outB) q ordinal
+
+-- And of asking the bytes of any choice of a source's records that has at least these, in their order.
 -- Rules out: an answer that needs the whole stream.
 unfoldable pub AnIndexIsEnough : Type 0
 AnIndexIsEnough =

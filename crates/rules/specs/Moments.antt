@@ -31,6 +31,10 @@ quiet earlier later source = all (λ line. quietLine earlier later (sharedIn lin
 unfoldable pub askedAt : ℕ → Question → Question
 askedAt moment q = record { name = q .name; type = q .type; client = q .client; moment = moment }
 
+-- Rules out: another question asked beside the moment.
+unfoldable pub OnlyTheMomentChanges : Type 0
+OnlyTheMomentChanges = (q : Question) → askedAt (q .moment) q ≡ q
+
 -- a record whose lifetime ends: ttl 0 with a time
 unfoldable pub ends : Record → Bool
 ends (location prefix lo) = false
@@ -56,15 +60,15 @@ withoutLifetime (Reply.Found type lifetime place count) = Reply.Found type (reco
 withoutLifetime Reply.NoMore = Reply.NoMore
 withoutLifetime (Reply.Refused fault) = Reply.Refused fault
 
--- what is handed out doesn't end; nothing doesn't either
+-- what is handed out, if anything is, doesn't end
 unfoldable pub lasts : Option Placed → Bool
 lasts none = true
 lasts (some p) = not (ends (p .rec))
 
-pub record SameButLifetime (handed : Option Placed) (r s : Response) : Type 0 where
+pub record SameButLifetime (given : Option Placed) (r s : Response) : Type 0 where
   pub outcome : r .outcome ≡ s .outcome
   pub reply : withoutLifetime (r .reply) ≡ withoutLifetime (s .reply)
-  pub lifetime : T (lasts handed) → r ≡ s
+  pub lifetime : T (lasts given) → r ≡ s
 
 -- what the lines of a source hand out at an ordinal, if anything
 unfoldable pub handedOut : List ℕ → ℕ → Question → ℕ → Option Placed

@@ -4,15 +4,15 @@ use Prim.Native.String.{String}
 use mathlib.Core.Path.{_≡_}
 use mathlib.Core.Bool.{Bool, true, false}
 use mathlib.Core.List.{List, [], _∷_, map}
-use lib.ListN.{length}
+use lib.ListN.{length, replicate}
 use Rattle.rules.specs.declared.replies.Response.{Response}
 use Rattle.rules.specs.Texts.{bytes}
 use Rattle.rules.specs.Bytes.{bytesOf}
 use Rattle.rules.specs.Answers.{sourceRecords}
 use Rattle.rules.specs.Questions.{Question, locationOf}
 use Rattle.rules.specs.Reading.{responseNumbers, askResponse}
-use Rattle.rules.specs.Towns.{locationLines, linesFor, withoutPlace, handed}
-use Rattle.rules.specs.Moments.{quiet}
+use Rattle.rules.specs.Towns.{locationLines, linesFor, resultFrom, SameResult, withoutPlace, handed}
+use Rattle.rules.specs.Moments.{quiet, ends}
 use Rattle.rules.specs.Index.{matters}
 use Rattle.rules.specs.Bench.{sourceOf, wire}
 
@@ -34,8 +34,12 @@ eastClient = 192 ∷ 0 ∷ 2 ∷ 9 ∷ []
 unfoldable pub westClient : List ℕ
 westClient = 192 ∷ 168 ∷ 0 ∷ 1 ∷ []
 
-unfoldable pub noClient : List ℕ
-noClient = 10 ∷ 0 ∷ 0 ∷ 1 ∷ []
+unfoldable pub elsewhere : List ℕ
+elsewhere = 10 ∷ 0 ∷ 0 ∷ 1 ∷ []
+
+-- a client of 16 bytes, which matches only the empty prefix
+unfoldable pub farClient : List ℕ
+farClient = 192 ∷ 0 ∷ 2 ∷ replicate 13 0
 
 -- ---- which lines count: a source, a client, its location, the `%` lines, and the other lines for it
 pub record CountedRow : Type 0 where
@@ -68,9 +72,13 @@ countedRows =
     ∷ counted both westClient (bytes "we") towns
     (".b" ∷ "+h.b:192.0.2.2:::we" ∷ "&h.b::x.y:::we" ∷ ".s.b::i:::we" ∷ "+*.b:192.0.2.3:::we" ∷ "+*.b:192.0.2.4" ∷ [])
     -- without a location, every line with a lo is another town's
-    ∷ counted both noClient [] towns (".b" ∷ "+*.b:192.0.2.4" ∷ [])
+    ∷ counted both elsewhere [] towns (".b" ∷ "+*.b:192.0.2.4" ∷ [])
+    -- nor has a client of 16 bytes one, but by an empty prefix
+    ∷ counted both farClient [] towns (".b" ∷ "+*.b:192.0.2.4" ∷ [])
+    ∷ counted ("+h.b:192.0.2.1:::EA" ∷ "+h.b:192.0.2.2:::ea" ∷ "%ea" ∷ []) farClient (bytes "ea") ("%ea" ∷ [])
+    ("+h.b:192.0.2.2:::ea" ∷ [])
     -- a lo of one letter has a 0 behind it; `-` lines are ignored, and a lo that only begins alike is another
-    ∷ counted ("%e" ∷ "+h.b:192.0.2.1:::e" ∷ "-h.b:192.0.2.1:::e" ∷ "+h.b:192.0.2.2:::ea" ∷ "" ∷ []) noClient
+    ∷ counted ("%e" ∷ "+h.b:192.0.2.1:::e" ∷ "-h.b:192.0.2.1:::e" ∷ "+h.b:192.0.2.2:::ea" ∷ "" ∷ []) elsewhere
     (101 ∷ 0 ∷ []) ("%e" ∷ []) ("+h.b:192.0.2.1:::e" ∷ [])
     ∷ []
 
@@ -99,15 +107,24 @@ unfoldable pub toldBy : AskedRow → List (List ℕ × List ℕ)
 toldBy r = toldUpTo (bytesOf (sourceRecords 7 (sourceOf (r .lines)))) (r .question) 0 (length (r .told))
 
 -- no more, with the outcome; and an address
-unfoldable pub nobody : ℕ → List (List ℕ × List ℕ)
-nobody outcome = (18 ∷ 0 ∷ 0 ∷ 0 ∷ 0 ∷ outcome ∷ [], []) ∷ []
+unfoldable pub noRecord : ℕ → List (List ℕ × List ℕ)
+noRecord outcome = (18 ∷ 0 ∷ 0 ∷ 0 ∷ 0 ∷ outcome ∷ [], []) ∷ []
+
+unfoldable pub addressAnd : ℕ → ℕ → List (List ℕ × List ℕ) → List (List ℕ × List ℕ)
+addressAnd lifetime last more = (0 ∷ 1 ∷ lifetime ∷ 0 ∷ 4 ∷ 3 ∷ [], 192 ∷ 0 ∷ 2 ∷ last ∷ []) ∷ more
 
 unfoldable pub address : ℕ → ℕ → List (List ℕ × List ℕ)
-address lifetime last = (0 ∷ 1 ∷ lifetime ∷ 0 ∷ 4 ∷ 3 ∷ [], 192 ∷ 0 ∷ 2 ∷ last ∷ []) ∷ nobody 3
+address lifetime last = addressAnd lifetime last (noRecord 3)
 
 -- a host with an address in each town
 unfoldable pub hosts : List String
 hosts = ".b" ∷ "+h.b:192.0.2.1:::ea" ∷ "+h.b:192.0.2.2:::we" ∷ []
+
+-- with another town's among them, and capitals
+unfoldable pub several : List String
+several =
+    "+h.b:192.0.2.9:::zz" ∷ "+h.b:192.0.2.1" ∷ "+h.b:192.0.2.2:::we" ∷ "+H.B:192.0.2.3:::ea" ∷ ".b" ∷ "%we:192.168"
+    ∷ "+h.b:192.0.2.4:::we" ∷ "%ea:192" ∷ "+h.b:192.0.2.5" ∷ []
 
 -- an address until a second, another from it on
 unfoldable pub changeAt : ℕ
@@ -122,12 +139,23 @@ askedRows =
     ∷ asked eastAlone eastClient 1 ("h" ∷ "b" ∷ []) (address 86400 1)
     ∷ asked both eastClient 1 ("x" ∷ "s" ∷ "b" ∷ []) (address 86400 4)
     ∷ asked eastAlone eastClient 1 ("x" ∷ "s" ∷ "b" ∷ []) (address 86400 4)
-    ∷ asked both eastClient 1 ("c" ∷ []) (nobody 1)
-    ∷ asked eastAlone eastClient 1 ("c" ∷ []) (nobody 1)
+    ∷ asked both eastClient 1 ("c" ∷ []) (noRecord 1)
+    ∷ asked eastAlone eastClient 1 ("c" ∷ []) (noRecord 1)
+    -- letter case is ignored, and no ordinary record stands at *.b
+    ∷ asked both eastClient 1 ("H" ∷ "b" ∷ []) (address 86400 1)
+    ∷ asked both eastClient 1 ("*" ∷ "b" ∷ []) (address 86400 4)
+    -- the ordinals count what the client sees
+    ∷ asked several eastClient 1 ("h" ∷ "b" ∷ []) (addressAnd 86400 1 (addressAnd 86400 3 (address 86400 5)))
+    -- other letters, or more of them, are another town
+    ∷ asked ("%e" ∷ ".b" ∷ "+h.b:192.0.2.1:::ea" ∷ "+h.b:192.0.2.2:::E" ∷ "+h.b:192.0.2.3:::e" ∷ []) eastClient 1
+    ("h" ∷ "b" ∷ []) (address 86400 3)
+    ∷ asked both farClient 1 ("h" ∷ "b" ∷ []) (address 86400 4)
+    -- a refused question has neither outcome nor data
+    ∷ asked both (10 ∷ []) 1 ("h" ∷ "b" ∷ []) ((17 ∷ 0 ∷ 0 ∷ 0 ∷ 0 ∷ 0 ∷ [], []) ∷ [])
     -- in the west h.b is a delegation, and s.b a zone without that name
-    ∷ asked both westClient 1 ("h" ∷ "b" ∷ []) ((0 ∷ 2 ∷ 259200 ∷ 0 ∷ 5 ∷ 2 ∷ [], wire ("x" ∷ "y" ∷ [])) ∷ nobody 2)
-    ∷ asked both westClient 1 ("x" ∷ "s" ∷ "b" ∷ []) (nobody 5)
-    ∷ asked both noClient 1 ("h" ∷ "b" ∷ []) (address 86400 4)
+    ∷ asked both westClient 1 ("h" ∷ "b" ∷ []) ((0 ∷ 2 ∷ 259200 ∷ 0 ∷ 5 ∷ 2 ∷ [], wire ("x" ∷ "y" ∷ [])) ∷ noRecord 2)
+    ∷ asked both westClient 1 ("x" ∷ "s" ∷ "b" ∷ []) (noRecord 5)
+    ∷ asked both elsewhere 1 ("h" ∷ "b" ∷ []) (address 86400 4)
     -- `%` lines of another order are another source: of equal prefixes the first counts
     ∷ asked ("%ea:192.0" ∷ "%we:192.0" ∷ hosts) eastClient 1 ("h" ∷ "b" ∷ []) (address 86400 1)
     ∷ asked ("%we:192.0" ∷ "%ea:192.0" ∷ hosts) eastClient 1 ("h" ∷ "b" ∷ []) (address 86400 2)
@@ -150,6 +178,20 @@ quietRows =
     ∷ ("#w.b:192.0.2.234:0:4000000038af1379" ∷ [], 0, changeAt + 5, true)
     ∷ []
 
+-- ---- which records of a source end, in turn
+unfoldable pub endsRows : List (List String × List Bool)
+endsRows = (
+  "+w.b:192.0.2.1:0:4000000038af1379" ∷ "+w.b:192.0.2.1::4000000038af1379" ∷ "+w.b:192.0.2.1:0" ∷ "+w.b:192.0.2.1" ∷ [],
+  true ∷ false ∷ false ∷ false ∷ [],
+)
+    -- an SOA and an NS record each
+    ∷ (
+      ".b:::0:4000000038af1379" ∷ ".b:::5:4000000038af1379" ∷ ".b:::0" ∷ [],
+      true ∷ true ∷ false ∷ false ∷ false ∷ false ∷ [],
+    )
+    ∷ ("%ea" ∷ [], false ∷ [])
+    ∷ []
+
 -- ---- which records of `both` matter to a name, in turn
 unfoldable pub mattersRows : List (List String × List Bool)
 mattersRows =
@@ -159,10 +201,18 @@ mattersRows =
     ∷ ([], true ∷ false ∷ false ∷ false ∷ false ∷ false ∷ false ∷ false ∷ true ∷ false ∷ false ∷ [])
     ∷ []
 
+-- ---- every question from the east is answered alike by both sources, by `OtherTownsAreUnseen`
+unfoldable pub EastIsToldTheSame : Type 0
+EastIsToldTheSame =
+    (name : List ℕ) (type moment : ℕ)
+    → let q : Question = record { name = name; type = type; client = eastClient; moment = moment } in
+    SameResult (resultFrom (sourceRecords 7 (sourceOf both)) q) (resultFrom (sourceRecords 7 (sourceOf eastAlone)) q)
+
 pub record TownExamplesHold : Type 0 where
   pub lines : map countedOf countedRows ≡ map expectedOf countedRows
   pub told : map toldBy askedRows ≡ map (λ r. r .told) askedRows
   pub times : map (λ r. quiet (r .1) (r .2) (sourceOf (r .0))) quietRows ≡ map (λ r. r .3) quietRows
+  pub endings : map (λ r. map ends (sourceRecords 7 (sourceOf (r .0)))) endsRows ≡ map (λ r. r .1) endsRows
   pub names :
       map (λ r. map (matters (wire (r .0))) (sourceRecords 7 (sourceOf both))) mattersRows
       ≡ map (λ r. r .1) mattersRows

@@ -1,6 +1,6 @@
 -- 02, W14: one town's lines, another town's panels, as statements about the definitions; proofs/Towns.antt proves
 -- them. Moments.antt has W14's second half, Index.antt what else an answer doesn't depend on;
--- crates/vahmizar/specs/Towns.antt has all three of the calls.
+-- crates/vahmizar/specs/Towns.antt has all three over the calls.
 use Prim.Native.Nat.{ℕ, _≤_}
 use mathlib.Core.Path.{_≡_}
 use mathlib.Core.Bool.{Bool, false, _||_}
@@ -27,7 +27,7 @@ unfoldable pub isLocationLine : List ℕ → Bool
 isLocationLine [] = false
 isLocationLine (kind ∷ rest) = eqb kind 37
 
--- ttl, time and lo of any other line that isn't empty or ignored
+-- ttl, time and lo of any other line that isn't empty or ignored, by its kind's last three fields
 unfoldable pub sharedIn : List ℕ → Option Shared
 sharedIn [] = none
 sharedIn (kind ∷ rest) = pick (ignored kind || eqb kind 37) none (some (sharedOf (kindOf kind) (splitOn 58 rest)))
@@ -45,12 +45,23 @@ locationLines source = keep isLocationLine (strippedLines source)
 unfoldable pub linesFor : List ℕ → List ℕ → List (List ℕ)
 linesFor here source = keep (λ line. hasLoOf here (sharedIn line)) (strippedLines source)
 
+-- "this client's location", by the lines of a source
+abbrev pub locationIn : List ℕ → ℕ → List ℕ → List ℕ
+locationIn source serial client = locationOf client (sourceRecords serial source)
+
 -- Each in its own order: how `%` lines stand among the others is left open, and so are empty and ignored lines.
 pub record SameFor (client : List ℕ) (serial : ℕ) (a b : List ℕ) : Type 0 where
   pub locations : locationLines a ≡ locationLines b
-  pub others :
-      linesFor (locationOf client (sourceRecords serial a)) a
-      ≡ linesFor (locationOf client (sourceRecords serial a)) b
+  pub others : linesFor (locationIn a serial client) a ≡ linesFor (locationIn a serial client) b
+
+-- Nothing else is asked of two sources.
+-- Rules out: a statement about pairs that are the same in more than this.
+unfoldable pub TheseLinesAreAll : Type 0
+TheseLinesAreAll =
+    (client : List ℕ) (serial : ℕ) (a b : List ℕ)
+    → locationLines a ≡ locationLines b
+    → linesFor (locationIn a serial client) a ≡ linesFor (locationIn a serial client) b
+    → SameFor client serial a b
 
 -- ---- "Every question from this client then gets the same outcome and list at every moment." "Places and byte counts
 -- depend on the other lines and are no part of it."

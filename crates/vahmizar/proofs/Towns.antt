@@ -19,19 +19,26 @@ use Rattle.rules.specs.Reading.{replyNumber, replyValues, outcomeNumber, respon
 use Rattle.rules.specs.Demands.{Accepted, bytesNeeded}
 use Rattle.rules.specs.Towns.{withoutPlace, handed, SameResponse, AnswerAlike, OtherTownsAreUnasked}
 use Rattle.rules.specs.Moments.{askedAt, withoutLifetime, handedOut, SameButLifetime, BetweenTimesAskedAlike}
-use Rattle.rules.specs.Index.{AnIndexIsEnough}
+use Rattle.rules.specs.Index.{TheseAloneAreAsked, AnIndexIsEnough}
 use Rattle.rules.proofs.Numbers.{from-le}
 use Rattle.rules.proofs.Lists.{all-keep}
 use Rattle.rules.proofs.Meaning.{source-ok}
 use Rattle.rules.proofs.Within.{Within, asked-within, mostNeeded, needed-few, kept-few}
 use Rattle.rules.proofs.Towns.{other-towns-are-unasked}
 use Rattle.rules.proofs.Moments.{between-times-asked-alike}
-use Rattle.rules.proofs.Index.{an-index-is-enough}
+use Rattle.rules.proofs.Index.{these-alone-are-asked, an-index-is-enough}
 use Rattle.vahmizar.specs.Promises.{laid}
 use Rattle.vahmizar.specs.Joining.{Call, wrote, Roomy}
-use Rattle.vahmizar.specs.Towns.{Asking, numberAt, handedBy, Agree, TheCallsHideOtherTowns, TheCallsNeedNoOtherNames, AgreeButLifetime, TheCallsChangeNothingBetweenTimes}
+use Rattle.vahmizar.specs.Towns.{Asking, numberAt, handedBy, EveryCallCounts, Agree, TheCallsHideOtherTowns, TheCallsNeedNoOtherNames, TheCallsTakeAnIndex, AgreeButLifetime, TheCallsChangeNothingBetweenTimes}
 use Rattle.vahmizar.proofs.Kept.{past}
 use Rattle.vahmizar.proofs.Joined.{writes, wrote-records}
+
+pub every-call-counts : EveryCallCounts
+every-call-counts = record {
+  compiling = λ source serial out answer out′ answer′ r c h.
+      record { source = source; out = out; answer = answer; out′ = out′; answer′ = answer′; r = r; compiles = c; fits = h };
+  asking = λ records q ordinal answer answer′ r a h. record { answer = answer; answer′ = answer′; r = r; asks = a; fits = h };
+}
 
 -- ---- an answer's bytes, by what was said
 
@@ -154,8 +161,17 @@ the-calls-hide-other-towns serial x y q ordinal u v okX okY same roomX roomY =
     (small-by y q ordinal okY roomY)
 
 pub the-calls-need-no-other-names : TheCallsNeedNoOtherNames
-unfolding TheCallsNeedNoOtherNames AnIndexIsEnough bytesNeeded
-the-calls-need-no-other-names serial x q ordinal chosen u v ok room has =
+unfolding TheCallsNeedNoOtherNames TheseAloneAreAsked
+the-calls-need-no-other-names serialX serialY x y q ordinal u v okX okY roomX roomY e =
+    agree u v
+    (rw (writes x, writes y)
+    (these-alone-are-asked q ordinal serialX serialY (x .source) (y .source) (x .out) (y .out) okX okY roomX roomY e))
+    (small-by x q ordinal okX roomX)
+    (small-by y q ordinal okY roomY)
+
+pub the-calls-take-an-index : TheCallsTakeAnIndex
+unfolding TheCallsTakeAnIndex AnIndexIsEnough bytesNeeded
+the-calls-take-an-index serial x q ordinal chosen u v ok room has =
     let rs : List Record = sourceRecords serial (x .source) in
     agree u v
     (rw (writes x) (an-index-is-enough q ordinal serial (x .source) (x .out) chosen ok room has))

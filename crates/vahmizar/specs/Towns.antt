@@ -18,16 +18,27 @@ use Rattle.rules.specs.Demands.{Accepted}
 use Rattle.rules.specs.Towns.{SameFor}
 use Rattle.rules.specs.Moments.{quiet, askedAt, lasts, handedOut}
 use Rattle.rules.specs.Index.{mattersTo}
-use Rattle.vahmizar.specs.Promises.{Asks}
+use Rattle.vahmizar.specs.Promises.{Compiles, Asks}
 use Rattle.vahmizar.specs.Joining.{Call, wrote, Roomy}
 
--- a call of tinydns_ask, whose answer's slice has the right length: what came out, and its promise
+-- a call of tinydns_ask, whose answer's slice has the right length: what came out, and its promise. `Call` is the same of
+-- tinydns_compile.
 pub record Asking (records : List ℕ) (q : Question) (ordinal : ℕ) : Type 0 where
   pub answer : List ℕ
   pub answer′ : List ℕ
   pub r : ℕ
   pub asks : Asks records q ordinal answer answer′ r
   pub fits : length answer ≡ 48
+
+-- Every call is one of these, that has such a slice and keeps its promise.
+-- Rules out: a statement about some calls alone.
+pub record EveryCallCounts : Type 0 where
+  pub compiling :
+      (source : List ℕ) (serial : ℕ) (out answer out′ answer′ : List ℕ) (r : ℕ)
+      → Compiles source serial out answer out′ answer′ r → length answer ≡ 32 → Call serial
+  pub asking :
+      (records : List ℕ) (q : Question) (ordinal : ℕ) (answer answer′ : List ℕ) (r : ℕ)
+      → Asks records q ordinal answer answer′ r → length answer ≡ 48 → Asking records q ordinal
 
 -- number i of an answer, from 0: number, type, lifetime, place, length, outcome
 abbrev pub numberAt : ℕ → List ℕ → ℕ
@@ -45,7 +56,9 @@ pub record Agree {x y : List ℕ} {q : Question} {n : ℕ} (u : Asking x q n) (v
   pub back : drop 32 (u .answer′) ≡ drop 32 (v .answer′)
   pub rdata : handedBy u ≡ handedBy v
 
--- "Every question from this client then gets the same outcome and list at every moment."
+-- "Take two accepted sources with the same default serial, the same `%` lines and the same other lines, both in the same
+-- order, save those others whose lo isn't empty and isn't this client's location; each may have any of these. Every
+-- question from this client then gets the same outcome and list at every moment."
 -- Rules out: a reader that takes a record of another location for the level or the control name, or counts it.
 unfoldable pub TheCallsHideOtherTowns : Type 0
 TheCallsHideOtherTowns =
@@ -58,11 +71,25 @@ TheCallsHideOtherTowns =
     → Roomy y
     → Agree u v
 
--- What a name server's index rests on: asked on some of the records that were written, in their order, and at least on
--- those that matter to the question, a call answers as on all of them.
+-- What a name server's index rests on: sources whose records differ only in those that don't matter to the question are
+-- answered alike,
 -- Rules out: an answer that needs a record of another name.
 unfoldable pub TheCallsNeedNoOtherNames : Type 0
 TheCallsNeedNoOtherNames =
+    (serialX serialY : ℕ) (x : Call serialX) (y : Call serialY) (q : Question) (ordinal : ℕ)
+    (u : Asking (wrote x) q ordinal) (v : Asking (wrote y) q ordinal)
+    → Accepted (x .source)
+    → Accepted (y .source)
+    → Roomy x
+    → Roomy y
+    → keep (mattersTo q) (sourceRecords serialX (x .source)) ≡ keep (mattersTo q) (sourceRecords serialY (y .source))
+    → Agree u v
+
+-- and asked on some of the records that were written, in their order, and at least on those that matter to the question,
+-- a call answers as on all of them.
+-- Rules out: an answer that needs the whole stream.
+unfoldable pub TheCallsTakeAnIndex : Type 0
+TheCallsTakeAnIndex =
     (serial : ℕ) (x : Call serial) (q : Question) (ordinal : ℕ) (chosen : Record → Bool)
     (u : Asking (wrote x) q ordinal) (v : Asking (bytesOf (keep chosen (sourceRecords serial (x .source)))) q ordinal)
     → Accepted (x .source)
@@ -73,15 +100,15 @@ TheCallsNeedNoOtherNames =
 -- ---- Two calls agree in all but the lifetime, bytes 16 to 23 of an answer, and there too if what they hand out
 -- doesn't end.
 pub record AgreeButLifetime {x : List ℕ} {p q : Question} {n : ℕ}
-    (handed : Option Placed) (u : Asking x p n) (v : Asking x q n) : Type 0 where
+    (given : Option Placed) (u : Asking x p n) (v : Asking x q n) : Type 0 where
   pub returned : u .r ≡ v .r
   pub front : take 16 (u .answer′) ≡ take 16 (v .answer′)
   pub back : drop 24 (u .answer′) ≡ drop 24 (v .answer′)
-  pub lifetime : T (lasts handed) → u .answer′ ≡ v .answer′
+  pub lifetime : T (lasts given) → u .answer′ ≡ v .answer′
 
 -- "if no time in it lies after the earlier moment and not after the later one, both moments give the same records, only
 -- ending lifetimes apart"
--- Rules out: a reader that keeps a record a second longer, or takes a time for another's.
+-- Rules out: a reader that keeps a record a second longer, or lets one begin or end at another's time.
 unfoldable pub TheCallsChangeNothingBetweenTimes : Type 0
 TheCallsChangeNothingBetweenTimes =
     (serial : ℕ) (x : Call serial) (q : Question) (earlier later ordinal : ℕ)
