@@ -1,0 +1,180 @@
+//! Lines of several towns, and other towns' lines changed.
+
+use crate::family::Family;
+use crate::lines::{field_from_end, with_field};
+use crate::random::Random;
+use crate::{sources, zones};
+
+/// Good lines, each with records.
+pub type Lines = Vec<Vec<u8>>;
+
+/// Locations, some of them easily taken for another.
+const LOS: [&str; 6] = ["in", "ex", "i", "IN", "im", "a"];
+
+/// Few names, and how lines about them are made.
+pub struct Crowd {
+    /// The names.
+    pub family: Family,
+    crowded: bool,
+}
+
+impl Crowd {
+    /// Any such.
+    pub fn new(random: &mut Random) -> Crowd {
+        let crowded = random.once_in(3);
+        let family = match crowded {
+            true => Family::crowded(),
+            false => Family::written(random),
+        };
+        Crowd { family, crowded }
+    }
+
+    /// Lines about the names.
+    pub fn lines(&self, random: &mut Random) -> Lines {
+        let source = match self.crowded {
+            true => sources::crowded(random),
+            false => zones::source(&self.family, &zones::TIMES, random),
+        };
+        let lines = source.split(|&byte| byte == b'\n');
+        let lines = lines.filter(|line| !line.is_empty());
+        lines.map(<[u8]>::to_vec).collect()
+    }
+
+    /// Lines about the names, with more towns and more `%` lines.
+    pub fn town_lines(&self, random: &mut Random) -> Lines {
+        let mut lines = self.lines(random);
+        for line in lines.iter_mut().filter(|line| !is_place(line)) {
+            if random.once_in(3) {
+                *line = with_field(line, 0, random.pick(&LOS).as_bytes());
+            }
+        }
+        for _ in 0..random.below(4) {
+            let lo = random.pick(&LOS);
+            let prefix = random.pick(&["", "10", "10.1", "10.1", "10.1.168", "192"]);
+            insert(&mut lines, format!("%{lo}:{prefix}").into_bytes(), random);
+        }
+        lines
+    }
+}
+
+/// Whether this is a `%` line.
+pub fn is_place(line: &[u8]) -> bool {
+    line.starts_with(b"%")
+}
+
+/// Whether a line, no `%` line, is another town's.
+pub fn is_foreign(line: &[u8], location: Option<[u8; 2]>) -> bool {
+    let lo = field_from_end(line, 0);
+    !lo.is_empty() && Some(stored(lo)) != location
+}
+
+/// A location's letters as records have them.
+fn stored(lo: &[u8]) -> [u8; 2] {
+    [lo[0], *lo.get(1).unwrap_or(&0)]
+}
+
+/// The same lines but for other towns', with these ones more: some of those
+/// there were left out or changed, and the `%` lines elsewhere among the rest.
+pub fn twin(
+    lines: &[Vec<u8>],
+    more: Lines,
+    location: Option<[u8; 2]>,
+    random: &mut Random,
+) -> Lines {
+    let (places, mut others): (Lines, Lines) = lines.iter().cloned().partition(|l| is_place(l));
+    others.retain(|line| !is_foreign(line, location) || random.once_in(3));
+    let more = more.into_iter().filter(|line| !is_place(line));
+    for line in more {
+        let line = foreign(&line, location, random);
+        insert(&mut others, line, random);
+    }
+    let mut mixed = Vec::new();
+    let (mut places, mut others) = (places.into_iter().peekable(), others.into_iter().peekable());
+    while let Some(line) = match (places.peek().is_some(), others.peek().is_some()) {
+        (true, true) if random.once_in(3) => places.next(),
+        (true, false) => places.next(),
+        _ => others.next(),
+    } {
+        mixed.push(line);
+    }
+    mixed
+}
+
+/// The line as another town's.
+fn foreign(line: &[u8], location: Option<[u8; 2]>, random: &mut Random) -> Vec<u8> {
+    let lo = LOS.map(str::as_bytes);
+    let start = random.below(LOS.len());
+    let others = (0..LOS.len()).map(|step| lo[(start + step) % LOS.len()]);
+    let other = others.into_iter().find(|lo| Some(stored(lo)) != location);
+    with_field(line, 0, other.expect("two locations or more"))
+}
+
+/// The lines with one or two of them changed in any way.
+pub fn disturbed(lines: &[Vec<u8>], random: &mut Random) -> Lines {
+    let mut lines = lines.to_vec();
+    for _ in 0..random.within(1, 2) {
+        let Some(last) = lines.len().checked_sub(1) else {
+            break;
+        };
+        let place = random.below(last + 1);
+        match random.below(5) {
+            0 | 1 => drop(lines.remove(place)),
+            2 => lines.swap(place, random.below(last + 1)),
+            3 if !is_place(&lines[place]) => {
+                let lo = random.pick(&["", "in", "ex", "i"]);
+                lines[place] = with_field(&lines[place], 0, lo.as_bytes());
+            }
+            _ => {
+                let places = (0..=last).filter(|&at| is_place(&lines[at]));
+                let places: Vec<_> = places.collect();
+                if let [first, .., second] = places[..] {
+                    lines.swap(first, second);
+                }
+            }
+        }
+    }
+    lines
+}
+
+/// The lines as a source; where `plain` isn't set, with blanks at their ends
+/// and lines without records among them.
+pub fn source(lines: &[Vec<u8>], plain: bool, random: &mut Random) -> Vec<u8> {
+    let mut source = Vec::new();
+    for line in lines {
+        if !plain && random.once_in(6) {
+            source.extend(random.pick(&["\n", "# :::in\n", "-\n", " \t\n"]).as_bytes());
+        }
+        source.extend(line);
+        if !plain && random.once_in(6) {
+            source.extend(random.pick(&[" ", "\t", "  \t"]).as_bytes());
+        }
+        source.push(b'\n');
+    }
+    if !plain && random.once_in(2) {
+        source.pop();
+    }
+    source
+}
+
+fn insert(lines: &mut Lines, line: Vec<u8>, random: &mut Random) {
+    lines.insert(random.below(lines.len() + 1), line);
+}
+
+#[cfg(test)]
+mod tests {
+    use super::*;
+
+    #[test]
+    fn towns_are_good_and_twins_too() {
+        for case in 0..2_000 {
+            let random = &mut Random::of_case(8, case);
+            let crowd = Crowd::new(random);
+            let lines = crowd.town_lines(random);
+            let twin = twin(&lines, crowd.lines(random), Some(*b"in"), random);
+            for lines in [&disturbed(&lines, random), &lines, &twin] {
+                let source = source(lines, false, random);
+                assert!(reference::records(&source, 1).is_ok(), "{source:?}");
+            }
+        }
+    }
+}
