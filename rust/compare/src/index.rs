@@ -3,17 +3,17 @@
 
 use crate::agreement::{difference, Heard, Lifetimes};
 use crate::asking::{describe, Told};
+use crate::crowd::Crowd;
 use crate::difference::{literal, Checked, Difference};
-use crate::family::Family;
 use crate::random::Random;
 use crate::reading::Asked;
 use crate::speakers::Speaker;
 use crate::telling::{Mark, Telling};
-use crate::town_lines::{source, Crowd};
-use crate::{names, walk, zones};
+use crate::town_lines::source;
+use crate::{names, walk};
 
 /// Questions put to each stream.
-const QUESTIONS: usize = 3;
+const QUESTIONS: usize = 2;
 /// Longest key, of an ordinary record and of a wildcard.
 const LONGEST_KEYS: [usize; 2] = [255, 253];
 
@@ -39,19 +39,16 @@ struct Put {
 impl Index {
     /// Makes record bytes and questions.
     pub fn new(random: &mut Random) -> Index {
-        let (bytes, family) = match random.once_in(3) {
-            true => {
-                let family = Family::of_any_bytes(random);
-                (Bytes::Stream(zones::stream(&family, random)), family)
-            }
-            false => {
-                let crowd = Crowd::new(random);
-                let lines = crowd.town_lines(random);
-                (Bytes::Source(source(&lines, true, random)), crowd.family)
-            }
+        let crowd = match random.once_in(3) {
+            true => Crowd::of_any_bytes(random),
+            false => Crowd::new(random),
+        };
+        let bytes = match crowd.stream(random) {
+            Some(stream) => Bytes::Stream(stream),
+            None => Bytes::Source(source(&crowd.town_lines(random), true, random)),
         };
         let asked = (0..QUESTIONS).map(|_| {
-            let asked = family.question(random);
+            let asked = crowd.question(random);
             let count = random.within(1, 4);
             let put = (0..count).filter_map(|_| without_matter(&asked.name, random));
             let put = put.collect();

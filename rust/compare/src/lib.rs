@@ -9,6 +9,7 @@ pub mod asking;
 pub mod borderline;
 pub mod cases;
 pub mod compiling;
+pub mod crowd;
 pub mod difference;
 pub mod edges;
 pub mod family;

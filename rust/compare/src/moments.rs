@@ -3,17 +3,18 @@
 
 use crate::agreement::{difference, lifetimes_differ, Heard, Lifetimes};
 use crate::asking::describe;
+use crate::crowd::Crowd;
 use crate::difference::{literal, Checked, Difference};
 use crate::lines::{field_from_end, with_field};
 use crate::random::Random;
 use crate::reading::Asked;
 use crate::speakers::Speaker;
 use crate::telling::{Mark, Telling};
-use crate::town_lines::{is_place, source, Crowd, Lines};
+use crate::town_lines::{is_place, source, Lines};
 use crate::zones;
 
 /// Questions put at each pair of moments.
-const QUESTIONS: usize = 4;
+const QUESTIONS: usize = 3;
 /// Behind the last time and before the first, moments reach so far.
 const REACH: u64 = 5_000;
 /// Moments are less.
@@ -38,7 +39,11 @@ impl Moments {
         let others = lines.iter().filter(|line| !is_place(line));
         let mut times: Vec<u64> = others.filter_map(|line| time(line)).collect();
         times.sort_unstable();
-        let gap = random.below(times.len() + 1);
+        // Before the first time most records that end are still there.
+        let gap = match random.once_in(2) {
+            true => 0,
+            false => random.below(times.len() + 1),
+        };
         let before = gap.checked_sub(1).map(|place| times[place]);
         let behind = times.get(gap).copied();
         let low = before.unwrap_or(behind.unwrap_or(END).saturating_sub(REACH));
@@ -52,7 +57,7 @@ impl Moments {
             _ => low + random.below((high - low) as usize + 1) as u64,
         });
         pair.sort_unstable();
-        let asked = (0..QUESTIONS).map(|_| crowd.family.question(random));
+        let asked = (0..QUESTIONS).map(|_| crowd.question(random));
         let asked = asked.collect();
         Moments {
             source: source(&lines, false, random),

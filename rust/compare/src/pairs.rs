@@ -28,6 +28,7 @@ pub fn run(reading: &Reading, tally: &mut Tally) -> Checked<u64> {
             sources: pair.sources.map(Into::into),
             serial: 1,
             asked: vec![asked.clone()],
+            alike: true,
         };
         let mut library = Library {
             reading,

@@ -1,61 +1,13 @@
 //! Lines of several towns, and other towns' lines changed.
 
-use crate::family::Family;
 use crate::lines::{field_from_end, with_field};
 use crate::random::Random;
-use crate::{sources, zones};
 
 /// Good lines, each with records.
 pub type Lines = Vec<Vec<u8>>;
 
 /// Locations, some of them easily taken for another.
-const LOS: [&str; 6] = ["in", "ex", "i", "IN", "im", "a"];
-
-/// Few names, and how lines about them are made.
-pub struct Crowd {
-    /// The names.
-    pub family: Family,
-    crowded: bool,
-}
-
-impl Crowd {
-    /// Any such.
-    pub fn new(random: &mut Random) -> Crowd {
-        let crowded = random.once_in(3);
-        let family = match crowded {
-            true => Family::crowded(),
-            false => Family::written(random),
-        };
-        Crowd { family, crowded }
-    }
-
-    /// Lines about the names.
-    pub fn lines(&self, random: &mut Random) -> Lines {
-        let source = match self.crowded {
-            true => sources::crowded(random),
-            false => zones::source(&self.family, &zones::TIMES, random),
-        };
-        let lines = source.split(|&byte| byte == b'\n');
-        let lines = lines.filter(|line| !line.is_empty());
-        lines.map(<[u8]>::to_vec).collect()
-    }
-
-    /// Lines about the names, with more towns and more `%` lines.
-    pub fn town_lines(&self, random: &mut Random) -> Lines {
-        let mut lines = self.lines(random);
-        for line in lines.iter_mut().filter(|line| !is_place(line)) {
-            if random.once_in(3) {
-                *line = with_field(line, 0, random.pick(&LOS).as_bytes());
-            }
-        }
-        for _ in 0..random.below(4) {
-            let lo = random.pick(&LOS);
-            let prefix = random.pick(&["", "10", "10.1", "10.1", "10.1.168", "192"]);
-            insert(&mut lines, format!("%{lo}:{prefix}").into_bytes(), random);
-        }
-        lines
-    }
-}
+pub const LOS: [&str; 6] = ["in", "ex", "i", "IN", "im", "a"];
 
 /// Whether this is a `%` line.
 pub fn is_place(line: &[u8]) -> bool {
@@ -71,6 +23,17 @@ pub fn is_foreign(line: &[u8], location: Option<[u8; 2]>) -> bool {
 /// A location's letters as records have them.
 fn stored(lo: &[u8]) -> [u8; 2] {
     [lo[0], *lo.get(1).unwrap_or(&0)]
+}
+
+/// Whether lines have the same `%` lines and the same others but for other
+/// towns', both in the same order.
+pub fn are_alike(first: &[Vec<u8>], second: &[Vec<u8>], location: Option<[u8; 2]>) -> bool {
+    let places = |lines: &[Vec<u8>]| -> Lines {
+        let places = lines.iter().filter(|line| is_place(line));
+        places.cloned().collect()
+    };
+    let counts = |line: &&Vec<u8>| !is_place(line) && !is_foreign(line, location);
+    places(first) == places(second) && first.iter().filter(counts).eq(second.iter().filter(counts))
 }
 
 /// The same lines but for other towns', with these ones more: some of those
@@ -156,13 +119,15 @@ pub fn source(lines: &[Vec<u8>], plain: bool, random: &mut Random) -> Vec<u8> {
     source
 }
 
-fn insert(lines: &mut Lines, line: Vec<u8>, random: &mut Random) {
+/// Puts a line somewhere among the others.
+pub fn insert(lines: &mut Lines, line: Vec<u8>, random: &mut Random) {
     lines.insert(random.below(lines.len() + 1), line);
 }
 
 #[cfg(test)]
 mod tests {
     use super::*;
+    use crate::crowd::Crowd;
 
     #[test]
     fn towns_are_good_and_twins_too() {

@@ -3,17 +3,18 @@
 
 use crate::agreement::{difference, Heard, Lifetimes};
 use crate::asking::describe;
+use crate::crowd::Crowd;
 use crate::difference::{literal, Checked, Difference};
 use crate::questions;
 use crate::random::Random;
 use crate::reading::{Asked, Reading};
 use crate::speakers::Speaker;
 use crate::telling::{Mark, Telling};
-use crate::town_lines::{disturbed, source, twin, Crowd};
+use crate::town_lines::{are_alike, disturbed, source, twin};
 use crate::walk;
 
 /// Questions put to each pair.
-const QUESTIONS: usize = 4;
+const QUESTIONS: usize = 3;
 
 /// Two sources, and questions of one client.
 pub struct Towns {
@@ -23,38 +24,40 @@ pub struct Towns {
     pub serial: u32,
     /// The questions, all from the same client.
     pub asked: Vec<Asked>,
+    /// Whether the sources count as alike, by how they were made.
+    pub alike: bool,
 }
 
 impl Towns {
     /// Makes a pair. Which lines are another town's is known from making them;
-    /// where the client is, and whether sources changed in any way still are
-    /// alike, the second implementation says.
+    /// where the client is, the second implementation says.
     pub fn new(reading: &Reading, random: &mut Random) -> Towns {
         let crowd = Crowd::new(random);
         let lines = crowd.town_lines(random);
-        let first = source(&lines, random.once_in(2), random);
         let client = questions::client(random);
-        let changed = source(&disturbed(&lines, random), true, random);
-        let second = match (reading.alike)(&first, &changed, &client) {
-            true => changed,
-            false => {
-                let location = (reading.location)(&first, &client);
-                let more = match random.once_in(4) {
-                    true => Vec::new(),
-                    false => crowd.lines(random),
-                };
-                source(&twin(&lines, more, location, random), false, random)
-            }
-        };
+        let first = source(&lines, random.once_in(2), random);
+        let location = (reading.location)(&first, &client);
+        // Changed in any way, the lines still may be alike.
+        let mut other = disturbed(&lines, random);
+        let mut second = source(&other, true, random);
+        if !are_alike(&lines, &other, location) && !(reading.alike)(&first, &second, &client) {
+            let more = match random.once_in(4) {
+                true => Vec::new(),
+                false => crowd.lines(random),
+            };
+            other = twin(&lines, more, location, random);
+            second = source(&other, false, random);
+        }
         let asked = (0..QUESTIONS).map(|_| Asked {
             client: client.clone(),
-            ..crowd.family.question(random)
+            ..crowd.question(random)
         });
         let asked = asked.collect();
         Towns {
             sources: [first, second],
             serial: random.number() as u32,
             asked,
+            alike: are_alike(&lines, &other, location),
         }
     }
 
@@ -91,6 +94,10 @@ impl Towns {
             telling.count(Mark::TownList, !told[0][place].list.is_empty());
             let near = self.other_town_near(speaker.reading(), &records, asked);
             telling.count(Mark::OtherTownNear, near);
+        }
+        if !self.alike {
+            let words = "the sources shouldn't count as alike";
+            return Err(self.differs(speaker, words, &self.asked[0]));
         }
         Ok(telling)
     }
