@@ -57,8 +57,72 @@ fn data<'a>(records: &'a [u8], &[_, _, _, place, length, _]: &[u64; 6]) -> Optio
 
 /// Whether the record has ttl 0 and a time, which stand right before its data.
 fn is_ending(records: &[u8], &[_, _, _, place, _, _]: &[u64; 6]) -> bool {
-    let fixed = records.get(..place as usize);
-    let fixed = fixed.and_then(|before| before.last_chunk::<12>());
-    fixed.is_some_and(|[ttl @ .., _, _, _, _, _, _, _, _]| *ttl == [0; 4])
-        && fixed.is_some_and(|[_, _, _, _, time @ ..]| *time != [0; 8])
+    let before = records.get(..place as usize);
+    match before.and_then(|before| before.last_chunk::<12>()) {
+        Some(fixed) => fixed[..4] == [0; 4] && fixed[4..] != [0; 8],
+        None => false,
+    }
+}
+
+#[cfg(test)]
+mod tests {
+    use super::*;
+
+    /// Ttl, time and one byte of data: of a record that ends, of one that
+    /// doesn't, and of one with ttl 0 and no time.
+    const ENDING: [u8; 13] = [0, 0, 0, 0, 0, 0, 0, 0, 0, 0, 0, 9, b'd'];
+    const LASTING: [u8; 13] = [0, 0, 0, 5, 0, 0, 0, 0, 0, 0, 0, 9, b'd'];
+    const TIMELESS: [u8; 13] = [0, 0, 0, 0, 0, 0, 0, 0, 0, 0, 0, 0, b'd'];
+
+    fn told(record_type: u64, lifetime: u64) -> Told {
+        Told {
+            outcome: 3,
+            list: vec![[0, record_type, lifetime, 12, 1, 3]],
+            end: 18,
+        }
+    }
+
+    fn agree(records: [&[u8]; 2], told: [&Told; 2], lifetimes: Lifetimes) -> bool {
+        let heard = [0, 1].map(|which| Heard {
+            records: records[which],
+            told: told[which],
+        });
+        difference(heard[0], heard[1], lifetimes).is_none()
+    }
+
+    #[test]
+    fn only_ending_lifetimes_may_shrink() {
+        let [five, seven] = [&told(1, 5), &told(1, 7)];
+        let both = |records: &[u8; 13], told, lifetimes| {
+            agree([&records[..], &records[..]], told, lifetimes)
+        };
+        assert!(both(&ENDING, [seven, five], Lifetimes::Ending));
+        assert!(!both(&ENDING, [five, seven], Lifetimes::Ending));
+        assert!(!both(&ENDING, [seven, five], Lifetimes::Same));
+        assert!(!both(&LASTING, [seven, five], Lifetimes::Ending));
+        assert!(!both(&TIMELESS, [seven, five], Lifetimes::Ending));
+        assert!(both(&LASTING, [five, five], Lifetimes::Same));
+    }
+
+    #[test]
+    fn data_types_and_ends_count_and_places_do_not() {
+        let one = &told(1, 5);
+        let moved = [b"elsewhere", &LASTING[..]].concat();
+        let mut there = told(1, 5);
+        there.list[0][3] += 9;
+        let same =
+            |records: &[u8], told: &Told| agree([&LASTING, records], [one, told], Lifetimes::Same);
+        assert!(same(&moved, &there));
+        assert!(!same(&moved, one));
+        assert!(!same(&LASTING, &told(16, 5)));
+        let mut longer = told(1, 5);
+        longer.list.push(longer.list[0]);
+        assert!(!same(&LASTING, &longer));
+        let mut other = told(1, 5);
+        other.end = 14;
+        assert!(!same(&LASTING, &other));
+        other = told(1, 5);
+        other.outcome = 2;
+        assert!(!same(&LASTING, &other));
+    }
 }

@@ -52,17 +52,7 @@ pub fn run(reading: &Reading, seed: u64, case: u64, tally: &mut Tally) -> Checke
         }
         21..=23 => zone_stream(reading, random, tally),
         24..=25 => joined(reading, &parts::several(random), random, tally),
-        kind => {
-            let made = Independent::new(kind - 26, reading, random);
-            let mut library = Library {
-                reading,
-                random,
-                tally,
-            };
-            let telling = made.check(&mut library)?;
-            tally.telling += telling;
-            Ok(())
-        }
+        kind => independent(reading, kind - 26, random, tally),
     }
 }
 
@@ -155,6 +145,19 @@ fn zone_stream(reading: &Reading, random: &mut Random, tally: &mut Tally) -> Che
         let asked = family.question(random);
         asking::check(reading, &zones, &asked, random, tally)?;
     }
+    Ok(())
+}
+
+/// Compares a case of what an answer doesn't depend on.
+fn independent(reading: &Reading, kind: u64, random: &mut Random, tally: &mut Tally) -> Checked {
+    let made = Independent::new(kind, reading, random);
+    let mut library = Library {
+        reading,
+        random,
+        tally,
+    };
+    let telling = made.check(&mut library)?;
+    tally.telling += telling;
     Ok(())
 }
 

@@ -1,7 +1,7 @@
 //! Few names, and all that is made up about them for several towns.
 
 use crate::family::Family;
-use crate::lines::with_field;
+use crate::lines::{field_from_end, with_field};
 use crate::random::Random;
 use crate::reading::Asked;
 use crate::town_lines::{insert, is_place, Lines, LOS};
@@ -57,9 +57,17 @@ impl Crowd {
             Sort::Crowded => sources::crowded(random),
             _ => zones::source(&self.family, &zones::TIMES, random),
         };
-        let lines = source.split(|&byte| byte == b'\n');
-        let lines = lines.filter(|line| !line.is_empty());
-        lines.map(<[u8]>::to_vec).collect()
+        let mut lines = Vec::new();
+        for line in source.split(|&byte| byte == b'\n') {
+            if line.is_empty() {
+                continue;
+            }
+            lines.push(line.to_vec());
+            if !is_place(line) && random.once_in(6) {
+                lines.push(of_other_kind(line, random));
+            }
+        }
+        lines
     }
 
     /// A question about the names, often for all types.
@@ -93,4 +101,20 @@ impl Crowd {
         }
         lines
     }
+}
+
+/// A line with the owner and the ending of another, of a kind that the sources
+/// don't have.
+fn of_other_kind(line: &[u8], random: &mut Random) -> Vec<u8> {
+    let (kind, middle) = random.pick(&[
+        ("=", ":10.1.168.192:"),
+        ("@", "::x.y:5:"),
+        ("S", "::x.y:80:::"),
+        ("^", ":p:"),
+        (":", ":99:x:"),
+    ]);
+    let owner = line[1..].split(|&byte| byte == b':').next();
+    let ending = [2, 1, 0].map(|back| field_from_end(line, back)).join(&b':');
+    let middle = middle.as_bytes();
+    [kind.as_bytes(), owner.unwrap_or_default(), middle, &ending].concat()
 }

@@ -5,7 +5,7 @@ use crate::index::Index;
 use crate::moments::Moments;
 use crate::random::Random;
 use crate::reading::Reading;
-use crate::speakers::{Alone, Speaker};
+use crate::speakers::{Alone, LinesAlone, Speaker};
 use crate::telling::Telling;
 use crate::towns::Towns;
 
@@ -42,9 +42,11 @@ impl Independent {
     }
 }
 
-/// Holds a second implementation to a case, with nothing beside it.
+/// Holds a second implementation to a case, with nothing beside it: what it
+/// answers from the bytes, then what it says of the lines.
 pub fn alone(reading: &Reading, seed: u64, case: u64) -> Checked {
     let mut random = Random::of_case(seed, case);
     let made = Independent::new(case % KINDS, reading, &mut random);
-    made.check(&mut Alone(reading)).map(drop)
+    made.check(&mut Alone(reading))?;
+    made.check(&mut LinesAlone(Alone(reading))).map(drop)
 }

@@ -8,7 +8,7 @@ use crate::cases;
 use crate::compiling;
 use crate::difference::Checked;
 use crate::random::Random;
-use crate::reading::{Asked, Reading};
+use crate::reading::{Asked, Meant, Reading};
 use crate::tally::Tally;
 
 /// Compiles and answers.
@@ -101,4 +101,47 @@ impl Speaker for Alone<'_> {
     fn answers(&mut self, _: (&[u8], u32), records: &[u8], asked: &[Asked]) -> Checked<Vec<Told>> {
         asked.iter().map(|asked| self.ask(records, asked)).collect()
     }
+}
+
+/// Its reading of the lines, with nothing beside it.
+pub struct LinesAlone<'a>(pub Alone<'a>);
+
+impl Speaker for LinesAlone<'_> {
+    fn reading(&self) -> &Reading {
+        self.0.reading()
+    }
+
+    fn compile(&mut self, source: &[u8], serial: u32) -> Checked<Option<Vec<u8>>> {
+        self.0.compile(source, serial)
+    }
+
+    fn ask(&mut self, records: &[u8], asked: &Asked) -> Checked<Told> {
+        self.0.ask(records, asked)
+    }
+
+    fn answers(
+        &mut self,
+        (source, serial): (&[u8], u32),
+        _: &[u8],
+        asked: &[Asked],
+    ) -> Checked<Vec<Told>> {
+        let meant = (self.reading().meaning)(source, serial, asked);
+        Ok(meant.into_iter().map(told).collect())
+    }
+}
+
+/// What the lines say, as asking tells it.
+fn told(meant: Meant) -> Told {
+    let (outcome, given, end) = match meant {
+        Ok((outcome, given)) => (outcome, given, 18),
+        Err(number) => (0, Vec::new(), number),
+    };
+    let numbers = given.iter().map(|given| {
+        let length = given.data.len() as u64;
+        let place = given.end.saturating_sub(length);
+        let (record_type, lifetime) = (given.record_type.into(), given.lifetime.into());
+        [0, record_type, lifetime, place, length, outcome]
+    });
+    let list = numbers.collect();
+    Told { outcome, list, end }
 }

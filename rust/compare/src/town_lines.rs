@@ -45,31 +45,39 @@ pub fn twin(
     random: &mut Random,
 ) -> Lines {
     let (places, mut others): (Lines, Lines) = lines.iter().cloned().partition(|l| is_place(l));
-    others.retain(|line| !is_foreign(line, location) || random.once_in(3));
+    others.retain(|line| !is_foreign(line, location) || random.once_in(2));
+    for line in others.iter_mut().filter(|line| is_foreign(line, location)) {
+        if random.once_in(2) {
+            *line = foreign(line, location, random);
+        }
+    }
     let more = more.into_iter().filter(|line| !is_place(line));
     for line in more {
         let line = foreign(&line, location, random);
         insert(&mut others, line, random);
     }
-    let mut mixed = Vec::new();
-    let (mut places, mut others) = (places.into_iter().peekable(), others.into_iter().peekable());
-    while let Some(line) = match (places.peek().is_some(), others.peek().is_some()) {
-        (true, true) if random.once_in(3) => places.next(),
-        (true, false) => places.next(),
-        _ => others.next(),
-    } {
-        mixed.push(line);
+    mixed(places, others, random)
+}
+
+/// Lines of both sorts mixed anew, each sort in its order.
+fn mixed(places: Lines, others: Lines, random: &mut Random) -> Lines {
+    let mut mixed = others;
+    let mut least = 0;
+    for line in places {
+        let place = random.within(least, mixed.len());
+        mixed.insert(place, line);
+        least = place + 1;
     }
     mixed
 }
 
 /// The line as another town's.
 fn foreign(line: &[u8], location: Option<[u8; 2]>, random: &mut Random) -> Vec<u8> {
-    let lo = LOS.map(str::as_bytes);
-    let start = random.below(LOS.len());
-    let others = (0..LOS.len()).map(|step| lo[(start + step) % LOS.len()]);
-    let other = others.into_iter().find(|lo| Some(stored(lo)) != location);
-    with_field(line, 0, other.expect("two locations or more"))
+    let others = LOS
+        .iter()
+        .filter(|lo| Some(stored(lo.as_bytes())) != location);
+    let others: Vec<_> = others.collect();
+    with_field(line, 0, random.pick(&others).as_bytes())
 }
 
 /// The lines with one or two of them changed in any way.
