@@ -19,7 +19,7 @@ enum Sort {
     Crowded,
     /// Zones and delegations.
     Zones,
-    /// Record bytes, since no line can have the names.
+    /// Record bytes, since lines can't have all of the names.
     AnyBytes,
 }
 
@@ -38,7 +38,7 @@ impl Crowd {
         }
     }
 
-    /// Names that only record bytes can have.
+    /// Names that only record bytes can have, too.
     pub fn of_any_bytes(random: &mut Random) -> Crowd {
         Crowd {
             family: Family::of_any_bytes(random),
@@ -46,7 +46,8 @@ impl Crowd {
         }
     }
 
-    /// Record bytes about names that no line can have. Most pass the reader.
+    /// Record bytes about names that lines can't all have. Most pass the
+    /// reader.
     pub fn stream(&self, random: &mut Random) -> Option<Vec<u8>> {
         (self.sort == Sort::AnyBytes).then(|| zones::stream(&self.family, random))
     }

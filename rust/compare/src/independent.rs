@@ -50,3 +50,16 @@ pub fn alone(reading: &Reading, seed: u64, case: u64) -> Checked {
     made.check(&mut Alone(reading))?;
     made.check(&mut LinesAlone(Alone(reading))).map(drop)
 }
+
+#[cfg(test)]
+mod tests {
+    use super::*;
+    use crate::reading::REFERENCE;
+
+    #[test]
+    fn the_second_implementation_holds_by_itself() {
+        for case in 0..2_000 {
+            alone(&REFERENCE, 9, case).expect("no difference");
+        }
+    }
+}
