@@ -60,7 +60,7 @@ impl Telling {
     pub fn missing(&self) -> Option<String> {
         let place = self.0.iter().position(|&count| count == 0)?;
         let (line, words) = WORDS[place];
-        Some(format!("{line}: no {words}"))
+        Some(format!("{line}: 0 {words}"))
     }
 }
 
@@ -84,5 +84,23 @@ impl fmt::Display for Telling {
             before = line;
         }
         Ok(())
+    }
+}
+
+#[cfg(test)]
+mod tests {
+    use super::*;
+
+    #[test]
+    fn a_mark_never_seen_is_missing() {
+        let mut telling = Telling([1; WORDS.len()]);
+        assert_eq!(telling.missing(), None);
+        telling.0[Mark::LeftOut as usize] = 0;
+        let words = "index: 0 with records left out";
+        assert_eq!(telling.missing().as_deref(), Some(words));
+        telling.count(Mark::LeftOut, false);
+        assert!(telling.missing().is_some());
+        telling.count(Mark::LeftOut, true);
+        assert_eq!(telling.missing(), None);
     }
 }
