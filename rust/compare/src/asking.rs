@@ -21,6 +21,8 @@ pub struct Told {
     pub outcome: u64,
     /// The answers that are records.
     pub list: Vec<[u64; 6]>,
+    /// The number right behind them.
+    pub end: u64,
 }
 
 /// Compares the answers to a question at every ordinal up to past the last,
@@ -64,10 +66,10 @@ pub fn check(
     if lent.inner() != records {
         return Err(call.differs(0, "the records were written"));
     }
-    let [_, _, _, _, _, outcome] = last;
+    let [end, _, _, _, _, outcome] = last;
     call.tally.told(outcome);
     call.laws(outcome, &list)?;
-    Ok(Told { outcome, list })
+    Ok(Told { outcome, list, end })
 }
 
 struct Call<'a> {
@@ -176,7 +178,8 @@ impl Call<'_> {
     }
 }
 
-fn numbers(answer: &[u8]) -> [u64; 6] {
+/// The numbers of an answer.
+pub fn numbers(answer: &[u8]) -> [u64; 6] {
     [0, 1, 2, 3, 4, 5].map(|place| sys::answer_number(answer, place))
 }
 

@@ -1,10 +1,13 @@
 //! One case: an input made from seed and number, and all that is compared on it.
 
+use crate::asking::Told;
 use crate::difference::{literal, Checked, Difference};
 use crate::family::Family;
+use crate::independent::Independent;
 use crate::lines::Mood;
 use crate::random::Random;
 use crate::reading::{Asked, Reading};
+use crate::speakers::Library;
 use crate::tally::Tally;
 use crate::{asking, compiling, hostile, joining, meaning, parts, questions, sources, zones};
 
@@ -17,7 +20,7 @@ const QUESTIONS_OF_JOINED: usize = 2;
 pub fn run(reading: &Reading, seed: u64, case: u64, tally: &mut Tally) -> Checked {
     let mut random = Random::of_case(seed, case);
     let random = &mut random;
-    match case % 26 {
+    match case % 30 {
         0..=2 => {
             let good = sources::of_lines(Mood::Good, random);
             source(reading, &good, random, tally)
@@ -48,7 +51,8 @@ pub fn run(reading: &Reading, seed: u64, case: u64, tally: &mut Tally) -> Checke
             })
         }
         21..=23 => zone_stream(reading, random, tally),
-        _ => joined(reading, &parts::several(random), random, tally),
+        24..=25 => joined(reading, &parts::several(random), random, tally),
+        kind => independent(reading, kind - 26, random, tally),
     }
 }
 
@@ -71,7 +75,7 @@ fn source_asked(
         return Ok(());
     };
     let asked: Vec<Asked> = (0..QUESTIONS).map(|_| question(&records, random)).collect();
-    answers(reading, (source, serial), &records, &asked, random, tally)
+    answers(reading, (source, serial), &records, &asked, random, tally).map(drop)
 }
 
 /// Compares sources joined: compiling them as one, asking what they became,
@@ -85,7 +89,7 @@ fn joined(reading: &Reading, parts: &[Vec<u8>], random: &mut Random, tally: &mut
     let question = |_| questions::about(&records, random);
     let asked: Vec<Asked> = (0..QUESTIONS_OF_JOINED).map(question).collect();
     let whole = parts.concat();
-    answers(reading, (&whole, serial), &records, &asked, random, tally)
+    answers(reading, (&whole, serial), &records, &asked, random, tally).map(drop)
 }
 
 fn serial(random: &mut Random) -> u32 {
@@ -96,25 +100,27 @@ fn serial(random: &mut Random) -> u32 {
     }
 }
 
-/// Compares the answers to questions over what a source with its serial became.
-fn answers(
+/// Compares the answers to questions over what a source with its serial
+/// became. Returns them.
+pub fn answers(
     reading: &Reading,
     (source, serial): (&[u8], u32),
     records: &[u8],
     asked: &[Asked],
     random: &mut Random,
     tally: &mut Tally,
-) -> Checked {
+) -> Checked<Vec<Told>> {
     let meant = (reading.meaning)(source, serial, asked);
-    for (asked, meant) in asked.iter().zip(&meant) {
+    let compared = asked.iter().zip(&meant).map(|(asked, meant)| {
         let told = asking::check(reading, records, asked, random, tally)?;
         let held = meaning::check(reading, records, asked, &told, meant, tally);
         held.map_err(|Difference(words)| {
             let source = literal(source);
             Difference(format!("{words}\n  source: {source}\n  serial: {serial}"))
         })?;
-    }
-    Ok(())
+        Ok(told)
+    });
+    compared.collect()
 }
 
 /// Compares asking over any bytes.
@@ -139,6 +145,19 @@ fn zone_stream(reading: &Reading, random: &mut Random, tally: &mut Tally) -> Che
         let asked = family.question(random);
         asking::check(reading, &zones, &asked, random, tally)?;
     }
+    Ok(())
+}
+
+/// Compares a case of what an answer doesn't depend on.
+fn independent(reading: &Reading, kind: u64, random: &mut Random, tally: &mut Tally) -> Checked {
+    let made = Independent::new(kind, reading, random);
+    let mut library = Library {
+        reading,
+        random,
+        tally,
+    };
+    let telling = made.check(&mut library)?;
+    tally.telling += telling;
     Ok(())
 }
 

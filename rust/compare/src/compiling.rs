@@ -31,6 +31,28 @@ pub fn check(
     call.rooms()
 }
 
+/// Compares compiling of a source with just the room that it needs. Returns
+/// the record bytes of an accepted source.
+pub fn check_once(
+    reading: &Reading,
+    source: &[u8],
+    serial: u32,
+    random: &mut Random,
+    tally: &mut Tally,
+) -> Checked<Option<Vec<u8>>> {
+    let [number, _, _, needed] = (reading.compile)(source, serial, &mut []);
+    let mut call = Call {
+        source,
+        serial,
+        wanted: &|out| (reading.compile)(source, serial, out),
+        name: reading.name,
+        random,
+        tally,
+    };
+    let records = call.room(needed as usize)?;
+    Ok(matches!(number, 0 | 13).then_some(records))
+}
+
 /// Calls of the library with a source, and what they are compared with.
 pub struct Call<'a> {
     /// The source.

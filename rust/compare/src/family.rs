@@ -41,16 +41,24 @@ impl Family {
     }
 
     fn near() -> Family {
-        let names = [
+        Family::of(&[
             "", "b", "s.b", "t.s.b", "u.t.s.b", "h.b", "h.s.b", "h.t.s.b", "c", "s.c", "a.ns.s.b",
             "h",
-        ];
+        ])
+    }
+
+    /// The names that crowded sources have, and some below them.
+    pub fn crowded() -> Family {
+        Family::of(&["", "b", "a.b", "x.a.b", "*.b", "c.b", "y.x.a.b", "y.c.b"])
+    }
+
+    fn of(names: &[&str]) -> Family {
         let labels = |name: &str| {
             let labels = name.split('.').filter(|label| !label.is_empty());
             labels.map(|label| label.as_bytes().to_vec()).collect()
         };
         Family {
-            names: names.into_iter().map(labels).collect(),
+            names: names.iter().map(|name| labels(name)).collect(),
         }
     }
 

@@ -97,6 +97,34 @@ pub fn of_kind(kind: u8, fields: &[Field], mood: Mood, random: &mut Random) -> V
     line
 }
 
+/// The field of a good line that stands so far from the last one of its kind:
+/// 0 is the location, 1 the time, 2 the ttl. Empty where the line ends before.
+pub fn field_from_end(line: &[u8], back: usize) -> &[u8] {
+    let (kind, fields) = fields_of(line);
+    let mut parts = line[kind.len()..].split(|&byte| byte == b':');
+    parts
+        .nth(fields - 1 - back)
+        .unwrap_or_default()
+        .trim_ascii_end()
+}
+
+/// The line with that field changed.
+pub fn with_field(line: &[u8], back: usize, value: &[u8]) -> Vec<u8> {
+    let (kind, fields) = fields_of(line);
+    let parts = line[kind.len()..].split(|&byte| byte == b':');
+    let mut parts: Vec<_> = parts.map(<[u8]>::to_vec).collect();
+    parts.resize(fields, Vec::new());
+    parts[fields - 1 - back] = value.to_vec();
+    [kind, &parts.join(&b':')].concat()
+}
+
+/// The kind of a good line with records, and how many fields it has.
+fn fields_of(line: &[u8]) -> (&[u8], usize) {
+    let kind = KINDS.iter().find(|(kind, _)| line.first() == Some(kind));
+    let (_, fields) = kind.expect("a line with records");
+    (&line[..1], fields.len())
+}
+
 /// A line of no kind, or with blanks at odd places.
 fn odd(random: &mut Random) -> Vec<u8> {
     let line = random.pick(&[

@@ -6,7 +6,7 @@ use std::process::ExitCode;
 use compare::difference::Checked;
 use compare::reading::{Reading, REFERENCE};
 use compare::tally::Tally;
-use compare::{cases, edges, joins, worked};
+use compare::{cases, edges, joins, pairs, worked};
 
 const USAGE: &str = "\
 compare [--cases N] [--seed N] [--only N] [--trace]
@@ -53,10 +53,11 @@ fn main() -> ExitCode {
 /// Compares the fixed inputs. Returns the number of differences.
 fn fixed(tally: &mut Tally) -> u64 {
     type Run = fn(&Reading, &mut Tally) -> Checked<u64>;
-    let runs: [(&str, Run, &str); 3] = [
+    let runs: [(&str, Run, &str); 4] = [
         ("edges", edges::run, "fixed sources answer"),
         ("joins", joins::run, "fixed sources joined answer"),
         ("examples", worked::run, "fixed questions are answered"),
+        ("pairs", pairs::run, "fixed pairs of sources answer"),
     ];
     let mut differences = 0;
     for (title, run, words) in runs {

@@ -5,6 +5,7 @@ use crate::hostile;
 use crate::names;
 use crate::random::Random;
 use crate::reading::Asked;
+use crate::walk;
 
 /// Clients that prefixes of several lengths fit.
 const CLIENTS: [[u8; 4]; 5] = [
@@ -17,7 +18,8 @@ const CLIENTS: [[u8; 4]; 5] = [
 
 /// A question about these record bytes, whatever they are.
 pub fn about(records: &[u8], random: &mut Random) -> Asked {
-    let keys = keys(records);
+    let found = walk::records(records);
+    let keys: Vec<_> = found.iter().map(|found| found.key).collect();
     Asked {
         name: name(&keys, random),
         record_type: match random.below(3) {
@@ -28,24 +30,6 @@ pub fn about(records: &[u8], random: &mut Random) -> Asked {
         client: client(random),
         moment: moment(random),
     }
-}
-
-/// All keys, as far as the lengths fit.
-fn keys(records: &[u8]) -> Vec<&[u8]> {
-    let mut keys = Vec::new();
-    let mut rest = records;
-    while let Some((head, behind)) = rest.split_at_checked(8) {
-        let length = |bytes: &[u8]| u32::from_le_bytes(bytes.try_into().unwrap()) as usize;
-        let Some((key, behind)) = behind.split_at_checked(length(&head[..4])) else {
-            break;
-        };
-        let Some((_, behind)) = behind.split_at_checked(length(&head[4..])) else {
-            break;
-        };
-        keys.push(key);
-        rest = behind;
-    }
-    keys
 }
 
 fn name(keys: &[&[u8]], random: &mut Random) -> Vec<u8> {

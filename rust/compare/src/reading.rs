@@ -52,6 +52,16 @@ pub struct Reading {
     pub ask: fn(&[u8], &Asked, u64, &mut [u8]) -> u64,
     /// Answers questions from the lines of an accepted source.
     pub meaning: fn(&[u8], u32, &[Asked]) -> Vec<Meant>,
+    /// Where a client is, by the lines of an accepted source.
+    pub location: fn(&[u8], &[u8]) -> Option<[u8; 2]>,
+    /// Whether two accepted sources answer a client the same.
+    pub alike: fn(&[u8], &[u8], &[u8]) -> bool,
+    /// Whether an accepted source has no time after the earlier moment and not
+    /// after the later one.
+    pub steady: fn(&[u8], u64, u64) -> bool,
+    /// The records that can matter to questions for a name; `None` where the
+    /// bytes aren't whole records or the name isn't one.
+    pub relevant: fn(&[u8], &[u8]) -> Option<Vec<u8>>,
 }
 
 /// Makes a [`Reading`] of a module with the names of the crate `reference`.
@@ -98,6 +108,12 @@ macro_rules! reading {
                 };
                 asked.iter().map(meant).collect()
             },
+            location: |source, client| {
+                $($module)::+::towns::location(source, client).map(|lo| lo.0)
+            },
+            alike: $($module)::+::towns::alike,
+            steady: $($module)::+::towns::steady,
+            relevant: $($module)::+::index::relevant,
         }
     };
 }

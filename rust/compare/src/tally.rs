@@ -3,6 +3,8 @@
 use std::fmt;
 use std::ops::AddAssign;
 
+use crate::telling::Telling;
+
 /// What became of a joined source.
 #[derive(Clone, Copy, Debug)]
 pub enum Joined {
@@ -25,6 +27,8 @@ pub struct Tally {
     joined: [u64; 4],
     /// Answers held against the lines themselves.
     pub meant: u64,
+    /// Cases of what an answer doesn't depend on.
+    pub telling: Telling,
 }
 
 impl Tally {
@@ -49,12 +53,14 @@ impl Tally {
     }
 
     /// What a run must have seen and has not.
-    pub fn missing(&self) -> Option<&'static str> {
+    pub fn missing(&self) -> Option<String> {
         if self.outcomes[1..].contains(&0) {
-            return Some("an outcome never occurred");
+            return Some("an outcome never occurred".to_owned());
         }
-        (self.joined[Joined::RefusedLater as usize] == 0)
-            .then_some("no joined source was refused in a later part")
+        if self.joined[Joined::RefusedLater as usize] == 0 {
+            return Some("no joined source was refused in a later part".to_owned());
+        }
+        self.telling.missing()
     }
 }
 
@@ -65,6 +71,7 @@ impl AddAssign for Tally {
         add(&mut self.outcomes, &other.outcomes);
         add(&mut self.joined, &other.joined);
         self.meant += other.meant;
+        self.telling += other.telling;
     }
 }
 
@@ -92,7 +99,8 @@ impl fmt::Display for Tally {
              part: {later}, a part not ended: {open}",
             self.joined.iter().sum::<u64>()
         )?;
-        write!(f, "lines: {} answers held to their meaning", self.meant)
+        writeln!(f, "lines: {} answers held to their meaning", self.meant)?;
+        write!(f, "{}", self.telling)
     }
 }
 

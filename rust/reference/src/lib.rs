@@ -5,12 +5,14 @@
 //! * [`compile()`] turns a source into record bytes;
 //! * [`joined()`] tells from several sources what they answer as one;
 //! * [`ask()`] answers a question over record bytes;
-//! * [`meaning::told`] answers it from the lines themselves, without bytes.
+//! * [`meaning::told`] answers it from the lines themselves, without bytes;
+//! * [`towns`] and [`index`] say what an answer doesn't depend on.
 
 pub mod ask;
 pub mod compile;
 pub mod fault;
 pub mod fields;
+pub mod index;
 pub mod joining;
 pub mod line;
 pub mod meaning;
@@ -21,6 +23,7 @@ pub mod question;
 pub mod record;
 pub mod source;
 pub mod stream;
+pub mod towns;
 pub mod values;
 
 pub use ask::{ask, AskAnswer};

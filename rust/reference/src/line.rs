@@ -16,7 +16,7 @@ const SOA_DEFAULTS: [u32; 4] = [16_384, 2_048, 1_048_576, 2_560];
 const SOA_TTL: u32 = 2_560;
 
 /// How many fields a kind has, and its default time to live.
-fn kind(byte: u8) -> Option<(usize, u32)> {
+pub fn kind(byte: u8) -> Option<(usize, u32)> {
     match byte {
         b'%' => Some((2, 0)),
         b'.' | b'&' => Some((6, 259_200)),
@@ -29,20 +29,28 @@ fn kind(byte: u8) -> Option<(usize, u32)> {
     }
 }
 
+/// A line without the blanks at its end.
+pub fn stripped(line: &[u8]) -> &[u8] {
+    let blanks = line.iter().rev().take_while(|&&b| b == b' ' || b == b'\t');
+    &line[..line.len() - blanks.count()]
+}
+
+/// Whether a stripped line says nothing.
+pub fn is_ignored(line: &[u8]) -> bool {
+    matches!(line.first(), None | Some(b'#' | b'-'))
+}
+
 /// Reads a line and puts its records, in order, behind those in `records`.
 /// After a fault, what was put there means nothing.
 pub fn read(line: &[u8], serial: u32, records: &mut Vec<Record>) -> Taken<()> {
     if line.len() > LONGEST_LINE {
         return Err(LineFault::of_line(Fault::LineTooLong));
     }
-    let blanks = line.iter().rev().take_while(|&&b| b == b' ' || b == b'\t');
-    let line = &line[..line.len() - blanks.count()];
-    let Some((&first, rest)) = line.split_first() else {
-        return Ok(());
-    };
-    if first == b'#' || first == b'-' {
+    let line = stripped(line);
+    if is_ignored(line) {
         return Ok(());
     }
+    let (first, rest) = (line[0], &line[1..]);
     let Some((count, default_ttl)) = kind(first) else {
         return Err(LineFault::of_line(Fault::UnknownKind));
     };

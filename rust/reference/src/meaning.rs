@@ -126,7 +126,7 @@ impl Told {
 }
 
 fn visible<'a>(records: &'a [Record], question: &Question<'_>) -> Vec<Visible<'a>> {
-    let location = location(records, question);
+    let location = location(records, question.client);
     let mut end = 0;
     let mut visible = Vec::new();
     for record in records {
@@ -158,11 +158,11 @@ fn labels(wire: &[u8]) -> Labels {
 }
 
 /// Where the client is: prefixes tried from the longest to the empty one.
-fn location(records: &[Record], question: &Question<'_>) -> Option<Lo> {
-    let longest = if question.client.len() == 4 { 4 } else { 0 };
+pub fn location(records: &[Record], client: &[u8]) -> Option<Lo> {
+    let longest = if client.len() == 4 { 4 } else { 0 };
     (0..=longest).rev().find_map(|length| {
         records.iter().find_map(|record| match record {
-            Record::Location { prefix, lo } if *prefix == question.client[..length] => Some(*lo),
+            Record::Location { prefix, lo } if *prefix == client[..length] => Some(*lo),
             _ => None,
         })
     })

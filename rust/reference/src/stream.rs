@@ -59,6 +59,11 @@ impl<'a> Stream<'a> {
         Stream { bytes, at: 0 }
     }
 
+    /// Where the next record begins.
+    pub fn place(&self) -> usize {
+        self.at
+    }
+
     fn read(&mut self) -> Option<Entry<'a>> {
         let (head, rest) = self.bytes[self.at..].split_first_chunk::<8>()?;
         let [k0, k1, k2, k3, d0, d1, d2, d3] = *head;
