@@ -12,7 +12,7 @@ use Rattle.rules.specs.Kinds.{linesOf, strip}
 use Rattle.rules.specs.Records.{Record, location, resource, loBytes}
 use Rattle.rules.specs.Answers.{strippedRecords, lineRecords, sourceRecords}
 use Rattle.rules.specs.Questions.{Best, better, bestOf, locationOf, inTime, visible}
-use Rattle.rules.specs.Towns.{strippedLines, isLocationLine, sharedIn, hasLoOf, locationLines, linesFor, SameFor, TheseLinesAreAll, OtherTownsAreUnseen, OtherTownsAreUnasked}
+use Rattle.rules.specs.Towns.{strippedLines, isLocationLine, sharedIn, hasLoOf, locationLines, linesFor, locationIn, SameFor, TheseLinesAreAll, TheLocationIsEnough, OtherTownsAreUnseen, OtherTownsAreUnasked}
 use Rattle.rules.proofs.Tests.{pick-ok, pick-no}
 use Rattle.rules.proofs.Lists.{All, nil, cons, all-weaken, keep-append}
 use Rattle.rules.proofs.Meaning.{source-ok, written}
@@ -127,31 +127,31 @@ module _ (serial : ℕ) (here : List ℕ) (moment : ℕ) where
 
 -- ---- two sources
 
-module _ (client : List ℕ) (serial : ℕ) (a b : List ℕ) (same : SameFor client serial a b) where
-  same-location : locationOf client (sourceRecords serial a) ≡ locationOf client (sourceRecords serial b)
-  same-location =
-      location-by-lines serial client a
-      ∙ ap (λ (ls : List (List ℕ)). locationOf client (recordsIn serial ls)) (same .locations)
-      ∙ sym (location-by-lines serial client b)
+pub the-location-is-enough : TheLocationIsEnough
+unfolding TheLocationIsEnough
+the-location-is-enough q serial a b same others =
+    let here : List ℕ = locationIn a serial (q .client) in
+    same-by-seen q (sourceRecords serial a) (sourceRecords serial b)
+    (seen-by-lines serial here (q .moment) a
+    ∙ ap (λ (ls : List (List ℕ)). keep (visible here (q .moment)) (recordsIn serial ls)) others
+    ∙ sym (seen-by-lines serial here (q .moment) b)
+    ∙ ap (λ (h : List ℕ). keep (visible h (q .moment)) (sourceRecords serial b)) same)
 
-  same-seen : (moment : ℕ)
-      → keep (visible (locationOf client (sourceRecords serial a)) moment) (sourceRecords serial a)
-      ≡ keep (visible (locationOf client (sourceRecords serial b)) moment) (sourceRecords serial b)
-  same-seen moment =
-      let here : List ℕ = locationOf client (sourceRecords serial a) in
-      seen-by-lines serial here moment a
-      ∙ ap (λ (ls : List (List ℕ)). keep (visible here moment) (recordsIn serial ls)) (same .others)
-      ∙ sym (seen-by-lines serial here moment b)
-      ∙ ap (λ (h : List ℕ). keep (visible h moment) (sourceRecords serial b)) same-location
+same-location : (client : List ℕ) (serial : ℕ) (a b : List ℕ) → locationLines a ≡ locationLines b
+    → locationIn a serial client ≡ locationIn b serial client
+same-location client serial a b same =
+    location-by-lines serial client a
+    ∙ ap (λ (ls : List (List ℕ)). locationOf client (recordsIn serial ls)) same
+    ∙ sym (location-by-lines serial client b)
 
 pub these-lines-are-all : TheseLinesAreAll
 unfolding TheseLinesAreAll
 these-lines-are-all client serial a b e f = record { locations = e; others = f }
 
 pub other-towns-are-unseen : OtherTownsAreUnseen
-unfolding OtherTownsAreUnseen
+unfolding OtherTownsAreUnseen TheLocationIsEnough
 other-towns-are-unseen q serial a b same =
-    same-by-seen q (sourceRecords serial a) (sourceRecords serial b) (same-seen (q .client) serial a b same (q .moment))
+    the-location-is-enough q serial a b (same-location (q .client) serial a b (same .locations)) (same .others)
 
 pub other-towns-are-unasked : OtherTownsAreUnasked
 unfolding OtherTownsAreUnasked OtherTownsAreUnseen

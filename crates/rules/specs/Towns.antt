@@ -81,6 +81,15 @@ OtherTownsAreUnseen =
     → SameFor (q .client) serial a b
     → SameResult (resultFrom (sourceRecords serial a) q) (resultFrom (sourceRecords serial b) q)
 
+-- Of the `%` lines only the location counts that they give this client: another town may have new ones too.
+-- Rules out: a prefix that the client's address doesn't begin with, and that still changes its answers.
+unfoldable pub TheLocationIsEnough : Type 0
+TheLocationIsEnough =
+    (q : Question) (serial : ℕ) (x y : List ℕ)
+    → locationIn x serial (q .client) ≡ locationIn y serial (q .client)
+    → linesFor (locationIn x serial (q .client)) x ≡ linesFor (locationIn x serial (q .client)) y
+    → SameResult (resultFrom (sourceRecords serial x) q) (resultFrom (sourceRecords serial y) q)
+
 -- The same of asking: a reply but for its place, and the bytes that it hands out.
 unfoldable pub withoutPlace : Reply → Reply
 withoutPlace (Reply.Found type lifetime place count) = Reply.Found type lifetime 0 count
