@@ -35,6 +35,7 @@ sharedIn (kind ∷ rest) = pick (ignored kind || eqb kind 37) none (some (shared
 -- ---- "Take two accepted sources with the same default serial, the same `%` lines and the same other lines, both in
 -- the same order, save those others whose lo isn't empty and isn't this client's location; each may have any of these."
 
+-- no lo, or that of a location
 unfoldable pub hasLoOf : List ℕ → Option Shared → Bool
 hasLoOf here none = false
 hasLoOf here (some shared) = eqb (length (loBytes (shared .lo))) 0 || sameBytes (loBytes (shared .lo)) here

@@ -21,8 +21,8 @@ use Rattle.rules.specs.Index.{mattersTo}
 use Rattle.vahmizar.specs.Promises.{Compiles, Asks}
 use Rattle.vahmizar.specs.Joining.{Call, wrote, Roomy}
 
--- a call of tinydns_ask, whose answer's slice has the right length: what came out, and its promise. `Call` is the same of
--- tinydns_compile.
+-- a call of tinydns_ask, whose answer's slice has the right length: what came out, and its promise. `Call` is the same
+-- of tinydns_compile.
 pub record Asking (records : List ℕ) (q : Question) (ordinal : ℕ) : Type 0 where
   pub answer : List ℕ
   pub answer′ : List ℕ
@@ -56,9 +56,9 @@ pub record Agree {x y : List ℕ} {q : Question} {n : ℕ} (u : Asking x q n) (v
   pub back : drop 32 (u .answer′) ≡ drop 32 (v .answer′)
   pub rdata : handedBy u ≡ handedBy v
 
--- "Take two accepted sources with the same default serial, the same `%` lines and the same other lines, both in the same
--- order, save those others whose lo isn't empty and isn't this client's location; each may have any of these. Every
--- question from this client then gets the same outcome and list at every moment."
+-- "Take two accepted sources with the same default serial, the same `%` lines and the same other lines, both in the
+-- same order, save those others whose lo isn't empty and isn't this client's location; each may have any of these.
+-- Every question from this client then gets the same outcome and list at every moment."
 -- Rules out: a reader that takes a record of another location for the level or the control name, or counts it.
 unfoldable pub TheCallsHideOtherTowns : Type 0
 TheCallsHideOtherTowns =
@@ -71,8 +71,8 @@ TheCallsHideOtherTowns =
     → Roomy y
     → Agree u v
 
--- What a name server's index rests on: sources whose records differ only in those that don't matter to the question are
--- answered alike,
+-- What a name server's index rests on: two sources that differ only in records that don't matter to the question
+-- answer it alike.
 -- Rules out: an answer that needs a record of another name.
 unfoldable pub TheCallsNeedNoOtherNames : Type 0
 TheCallsNeedNoOtherNames =
@@ -85,8 +85,8 @@ TheCallsNeedNoOtherNames =
     → keep (mattersTo q) (sourceRecords serialX (x .source)) ≡ keep (mattersTo q) (sourceRecords serialY (y .source))
     → Agree u v
 
--- and asked on some of the records that were written, in their order, and at least on those that matter to the question,
--- a call answers as on all of them.
+-- And asked on some of the records that were written, in their order, at least on those that matter to the question, a
+-- call answers as on all of them.
 -- Rules out: an answer that needs the whole stream.
 unfoldable pub TheCallsTakeAnIndex : Type 0
 TheCallsTakeAnIndex =
@@ -106,8 +106,8 @@ pub record AgreeButLifetime {x : List ℕ} {p q : Question} {n : ℕ}
   pub back : drop 24 (u .answer′) ≡ drop 24 (v .answer′)
   pub lifetime : T (lasts given) → u .answer′ ≡ v .answer′
 
--- "if no time in it lies after the earlier moment and not after the later one, both moments give the same records, only
--- ending lifetimes apart"
+-- "if no time in it lies after the earlier moment and not after the later one, both moments give the same records,
+-- only ending lifetimes apart"
 -- Rules out: a reader that keeps a record a second longer, or lets one begin or end at another's time.
 unfoldable pub TheCallsChangeNothingBetweenTimes : Type 0
 TheCallsChangeNothingBetweenTimes =
