@@ -65,10 +65,13 @@ expectedOf r = (r .here, map bytes (r .locations), map bytes (r .others))
 unfoldable pub towns : List String
 towns = "%ea:192.0" ∷ "%we:192.168" ∷ []
 
+unfoldable pub eastLines : List String
+eastLines = ".b" ∷ "+h.b:192.0.2.1:::ea" ∷ "+*.b:192.0.2.4" ∷ []
+
 unfoldable pub countedRows : List CountedRow
 countedRows =
-    counted both eastClient (bytes "ea") towns (".b" ∷ "+h.b:192.0.2.1:::ea" ∷ "+*.b:192.0.2.4" ∷ [])
-    ∷ counted eastAlone eastClient (bytes "ea") towns (".b" ∷ "+h.b:192.0.2.1:::ea" ∷ "+*.b:192.0.2.4" ∷ [])
+    counted both eastClient (bytes "ea") towns eastLines
+    ∷ counted eastAlone eastClient (bytes "ea") towns eastLines
     ∷ counted both westClient (bytes "we") towns
     (".b" ∷ "+h.b:192.0.2.2:::we" ∷ "&h.b::x.y:::we" ∷ ".s.b::i:::we" ∷ "+*.b:192.0.2.3:::we" ∷ "+*.b:192.0.2.4" ∷ [])
     -- without a location, every line with a lo is another town's
