@@ -19,9 +19,7 @@ use Rattle.rules.specs.Reading.{typeOf, momentEnd, isClient, replyOf, re
 use Rattle.rules.specs.Towns.{resultFrom, SameResult, withoutPlace, handed, SameResponse, AnswerAlike}
 use Rattle.rules.proofs.Lists.{OnSome, All, nil, cons, all-weaken, all-at, keep-map}
 use Rattle.rules.proofs.Records.{Ok}
-use Rattle.rules.proofs.Decoding.{decode-back}
-use Rattle.rules.proofs.Lowering.{from-lower}
-use Rattle.rules.proofs.Meaning.{answers-all, Held, held}
+use Rattle.rules.proofs.Meaning.{answers-all, Held, held, asked-records}
 use Rattle.rules.proofs.Unseen.{Unseen, changed, answers-same}
 
 -- ---- places are not seen
@@ -95,15 +93,6 @@ pub same-by-seen : (q : Question) (rs ss : List Record) → seenBy q rs ≡ seen
 same-by-seen q rs ss e = same-bare q rs ss (rw (by-seen q rs, by-seen q ss, e))
 
 -- ---- asking
-
--- asking what records were written to, by the records
-pub asked-records : (q : Question) (n : ℕ) {rs : List Record} → All Ok rs
-    → askResponse (bytesOf rs) q n
-    ≡ pick (not (isWire (q .name))) (refusal AskFault.Name)
-    (pick (leb momentEnd (q .moment)) (refusal AskFault.Moment)
-    (pick (not (isClient (q .client))) (refusal AskFault.Client) (responseFrom rs q n)))
-unfolding askResponse responseDecoded
-asked-records q n {rs} ok = rw (decode-back ok, from-lower q n rs)
 
 module _ (x y : List ℕ) where
   same-pick : (b : Bool) (f : AskFault) (r s : Response) → SameResponse x y r s

@@ -8,9 +8,10 @@ use mathlib.Core.List.{List, [], _∷_, _++_, map, append-assoc}
 use mathlib.Core.Option.{Option, none, some}
 use lib.ListN.{length, take, drop, getElem?, length-append}
 use lib.Seq.{take-at, take-append-seam, drop-append-seam}
-use lib.Dec.{T, eqb}
+use lib.Dec.{T, leb, eqb}
 use lib.Arith.{lt→nleb}
 use Rattle.rules.specs.declared.faults.Fault.{Fault}
+use Rattle.rules.specs.declared.replies.AskFault.{AskFault}
 use Rattle.rules.specs.Lists.{pick, keep, all, joinAll, le}
 use Rattle.rules.specs.Kinds.{linesOf}
 use Rattle.rules.specs.Names.{isWire}
@@ -18,7 +19,7 @@ use Rattle.rules.specs.Records.{Record}
 use Rattle.rules.specs.Bytes.{keyOf, rdataOf, fixedOf, dataOf, encode, size, sizeOfAll, bytesOf}
 use Rattle.rules.specs.Answers.{isDone, isGood, lineRecords, sourceRecords, answer, compileAnswer, compileOutput}
 use Rattle.rules.specs.Questions.{Placed, placedFrom, Question, wildcardOf, ancestorsTo, firstFull, level, ordinaryOfType, Result, byLevel, inZone, byControl, answers}
-use Rattle.rules.specs.Reading.{momentEnd, isClient, replyOf, responseOf, responseFrom, responseDecoded, askResponse}
+use Rattle.rules.specs.Reading.{momentEnd, isClient, replyOf, responseOf, responseFrom, refusal, responseDecoded, askResponse}
 use Rattle.rules.specs.Demands.{Accepted, bytesNeeded, CompilingRefusesExactly, compiledBytes, Gives, Tells, CompilingKeepsTheMeaning}
 use Rattle.rules.proofs.Tests.{pick-ok, pick-no, and-l, and-r}
 use Rattle.rules.proofs.Lists.{OnSome, All, nil, cons, all-append, all-keep, all-at, all-map}
@@ -108,15 +109,23 @@ held pre n (r ∷ rs) e =
 
 -- ---- the demand
 
+-- asking what records were written to, by the records
+pub asked-records : (q : Question) (n : ℕ) {rs : List Record} → All Ok rs
+    → askResponse (bytesOf rs) q n
+    ≡ pick (not (isWire (q .name))) (refusal AskFault.Name)
+    (pick (leb momentEnd (q .moment)) (refusal AskFault.Moment)
+    (pick (not (isClient (q .client))) (refusal AskFault.Client) (responseFrom rs q n)))
+unfolding askResponse responseDecoded
+asked-records q n {rs} ok = rw (decode-back ok, from-lower q n rs)
+
 asked : (q : Question) (n : ℕ) {rs : List Record} → All Ok rs → T (isWire (q .name)) → q .moment < momentEnd
     → (length (q .client) ≡ 4) ⊎ (length (q .client) ≡ 16) → askResponse (bytesOf rs) q n ≡ responseFrom rs q n
-unfolding askResponse responseDecoded isClient
-asked q n {rs} ok name moment client =
-    pick-no _ _ _ (not-not (isWire (q .name)) name)
+unfolding isClient
+asked q n ok name moment client =
+    asked-records q n ok
+    ∙ pick-no _ _ _ (not-not (isWire (q .name)) name)
     ∙ pick-no _ _ _ (lt→nleb momentEnd (q .moment) moment)
     ∙ pick-no _ _ _ (not-not (eqb (length (q .client)) 4 || eqb (length (q .client)) 16) (either client))
-    ∙ ap (λ (o : Option (List Record)). responseDecoded o q n) (decode-back ok)
-    ∙ from-lower q n rs
   where
     not-not : (b : Bool) → T b → T (not (not b))
     not-not true t = tt

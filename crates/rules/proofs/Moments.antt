@@ -26,9 +26,8 @@ use Rattle.rules.specs.Moments.{quietLine, quiet, askedAt, OnlyTheMoment
 use Rattle.rules.proofs.Tests.{is-true, is-false, and-l, and-r, pick-no}
 use Rattle.rules.proofs.Lists.{All, nil, cons, all-append, all-weaken}
 use Rattle.rules.proofs.Records.{Ok}
-use Rattle.rules.proofs.Meaning.{source-ok, written}
+use Rattle.rules.proofs.Meaning.{source-ok, written, asked-records}
 use Rattle.rules.proofs.Carried.{Carries, carries, Located, Says, nothing, place, shares, stripped-says}
-use Rattle.rules.proofs.Alike.{asked-records}
 use Rattle.rules.proofs.Towns.{recordsIn, records-by-lines}
 
 both-yes : (a b : Bool) → T a → T b → a ≡ b

@@ -21,9 +21,8 @@ use Rattle.rules.specs.Demands.{Accepted, bytesNeeded}
 use Rattle.rules.proofs.Tests.{is-true, and-l, and-r, pick-ok}
 use Rattle.rules.proofs.Lists.{OnSome, All, nil, cons, all-at}
 use Rattle.rules.proofs.Records.{Ok}
-use Rattle.rules.proofs.Meaning.{answers-all, Held, held, sizes-add}
+use Rattle.rules.proofs.Meaning.{answers-all, Held, held, sizes-add, asked-records}
 use Rattle.rules.proofs.Sizes.{line-size}
-use Rattle.rules.proofs.Alike.{asked-records}
 
 -- ---- a reply's place
 

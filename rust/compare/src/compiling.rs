@@ -20,15 +20,8 @@ pub fn check(
     random: &mut Random,
     tally: &mut Tally,
 ) -> Checked<Option<Vec<u8>>> {
-    let mut call = Call {
-        source,
-        serial,
-        wanted: &|out| (reading.compile)(source, serial, out),
-        name: reading.name,
-        random,
-        tally,
-    };
-    call.rooms()
+    let wanted = |out: &mut [u8]| (reading.compile)(source, serial, out);
+    Call::new(reading, source, serial, &wanted, random, tally).rooms()
 }
 
 /// Compares compiling of a source with just the room that it needs. Returns
@@ -40,15 +33,9 @@ pub fn check_once(
     random: &mut Random,
     tally: &mut Tally,
 ) -> Checked<Option<Vec<u8>>> {
-    let [number, _, _, needed] = (reading.compile)(source, serial, &mut []);
-    let mut call = Call {
-        source,
-        serial,
-        wanted: &|out| (reading.compile)(source, serial, out),
-        name: reading.name,
-        random,
-        tally,
-    };
+    let wanted = |out: &mut [u8]| (reading.compile)(source, serial, out);
+    let [number, _, _, needed] = wanted(&mut []);
+    let mut call = Call::new(reading, source, serial, &wanted, random, tally);
     let records = call.room(needed as usize)?;
     Ok(matches!(number, 0 | 13).then_some(records))
 }
@@ -69,7 +56,25 @@ pub struct Call<'a> {
     pub tally: &'a mut Tally,
 }
 
-impl Call<'_> {
+impl<'a> Call<'a> {
+    fn new(
+        reading: &'a Reading,
+        source: &'a [u8],
+        serial: u32,
+        wanted: &'a dyn Fn(&mut [u8]) -> [u64; 4],
+        random: &'a mut Random,
+        tally: &'a mut Tally,
+    ) -> Call<'a> {
+        Call {
+            source,
+            serial,
+            wanted,
+            name: reading.name,
+            random,
+            tally,
+        }
+    }
+
     /// Compares calls with several sizes of room. Returns the record bytes of
     /// an accepted source.
     pub fn rooms(&mut self) -> Checked<Option<Vec<u8>>> {

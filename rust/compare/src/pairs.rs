@@ -7,6 +7,7 @@ use crate::reading::{Asked, Reading};
 use crate::speakers::{Library, Speaker};
 use crate::tally::Tally;
 use crate::towns::Towns;
+use crate::worked::wire;
 
 #[path = "../../reference/tests/pairs/mod.rs"]
 mod fixed;
@@ -17,9 +18,9 @@ use fixed::{Pair, MOMENT, PAIRS};
 pub fn run(reading: &Reading, tally: &mut Tally) -> Checked<u64> {
     let mut random = Random::of_case(0, 3);
     for pair in PAIRS {
-        let (_, record_type) = pair.asked;
+        let (name, record_type) = pair.asked;
         let asked = Asked {
-            name: pair.name(),
+            name: wire(name),
             record_type,
             client: pair.client.to_vec(),
             moment: MOMENT,

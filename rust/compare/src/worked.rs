@@ -11,6 +11,7 @@ use crate::tally::Tally;
 #[path = "../../reference/tests/examples/mod.rs"]
 mod examples;
 
+pub use examples::wire;
 use examples::EXAMPLES;
 
 /// Compares all examples and holds them to their answers. Returns the number

@@ -35,7 +35,8 @@ impl Example {
     }
 }
 
-fn wire(name: &str) -> Vec<u8> {
+/// A name on the wire; the empty one is the root.
+pub fn wire(name: &str) -> Vec<u8> {
     let mut wire = Vec::new();
     for label in name.split('.').filter(|label| !label.is_empty()) {
         wire.push(label.len() as u8);

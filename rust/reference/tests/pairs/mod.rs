@@ -16,20 +16,6 @@ pub struct Pair {
     pub list: &'static [(u64, u64, &'static [u8])],
 }
 
-impl Pair {
-    /// The name on the wire.
-    pub fn name(&self) -> Vec<u8> {
-        let (name, _) = self.asked;
-        let mut wire = Vec::new();
-        for label in name.split('.').filter(|label| !label.is_empty()) {
-            wire.push(label.len() as u8);
-            wire.extend_from_slice(label.as_bytes());
-        }
-        wire.push(0);
-        wire
-    }
-}
-
 /// When the questions are asked: a second before the time in the lines.
 pub const MOMENT: u64 = 0x4000_0000_38af_1378;
 
