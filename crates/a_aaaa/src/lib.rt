@@ -1,2 +1,5 @@
 // Address records.
+
+#![tactic(auto)]
+
 pub mod a_aaaa;

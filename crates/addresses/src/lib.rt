@@ -1,3 +1,6 @@
 // Addresses.
+
+#![tactic(auto)]
+
 pub mod addresses;
 mod groups_bytes;

@@ -1,2 +1,5 @@
 // The lines that say a host's address.
+
+#![tactic(auto)]
+
 pub mod aliases;

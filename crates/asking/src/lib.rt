@@ -1,4 +1,7 @@
 // Asking by a reader that holds the bytes.
+
+#![tactic(auto)]
+
 ghost use Rattle.std.specs.Prelude.{◌≡◌};
 ghost use Rattle.rules.specs.Reading.{ask_response};
 

@@ -1,2 +1,5 @@
 // The line of an authority.
+
+#![tactic(auto)]
+
 pub mod authorities;

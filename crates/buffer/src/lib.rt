@@ -1,2 +1,5 @@
 // Bytes put at the front of a lent buffer.
+
+#![tactic(auto)]
+
 pub mod put;

@@ -1,2 +1,5 @@
 // lo.
+
+#![tactic(auto)]
+
 pub mod codes;

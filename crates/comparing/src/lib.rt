@@ -1,4 +1,7 @@
 // A key compared with a name, and how many byte pairs were read to tell.
+
+#![tactic(auto)]
+
 ghost use Rattle.std.specs.Prelude.{◌≡◌};
 ghost use Rattle.rules.specs.Comparing.{compared};
 

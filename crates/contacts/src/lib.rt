@@ -1,2 +1,5 @@
 // The contacts of zones.
+
+#![tactic(auto)]
+
 pub mod contacts;

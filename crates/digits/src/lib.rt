@@ -1,2 +1,5 @@
 // Hexadecimal digits.
+
+#![tactic(auto)]
+
 pub mod hex;

@@ -1,2 +1,5 @@
 // Texts with escapes.
+
+#![tactic(auto)]
+
 pub mod texts;

@@ -1,2 +1,5 @@
 // The fault of a field.
+
+#![tactic(auto)]
+
 pub mod faults;

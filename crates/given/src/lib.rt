@@ -1,2 +1,5 @@
 // The name that x gives.
+
+#![tactic(auto)]
+
 pub mod given;

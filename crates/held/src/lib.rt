@@ -1,4 +1,7 @@
 // A reader that holds compiled bytes and its own place in them.
+
+#![tactic(auto)]
+
 ghost use Rattle.std.specs.Prelude.{◌≡◌};
 ghost use Rattle.places.specs.Places.{found_at};
 ghost use Rattle.held.specs.Nth.{found_from};

@@ -1,2 +1,5 @@
 // Bytes as hexadecimal digits, as text and printed.
+
+#![tactic(auto)]
+
 pub mod hex;

@@ -1,2 +1,5 @@
 // What a line says of a host.
+
+#![tactic(auto)]
+
 pub mod hosts;

@@ -1,2 +1,5 @@
 // Numbers put at the front of a lent buffer.
+
+#![tactic(auto)]
+
 pub mod integers;

@@ -1,4 +1,7 @@
 // What the key and the data of one record say. Each function that judges has one caller or is small, so that a stream is judged without calls.
+
+#![tactic(auto)]
+
 ghost use Rattle.std.specs.Prelude.{◌≡◌, true, ◌&&◌, [], ◌∷◌, ◌≤◌, ◌+◌, length, drop, get_or, leb, eqb};
 ghost use Rattle.rules.specs.Reading.{is_lo, by_flag, resource_in, location_in, record_in};
 ghost use Rattle.keys.specs.Keys.{low_name, fits_owner};

@@ -1,2 +1,5 @@
 // Names judged.
+
+#![tactic(auto)]
+
 pub mod judged;

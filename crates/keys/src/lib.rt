@@ -1,4 +1,7 @@
 // Names on the wire, as keys and questions have them.
+
+#![tactic(auto)]
+
 ghost use Rattle.std.specs.Prelude.{◌≡◌, ◌&&◌, leb};
 ghost use Rattle.rules.specs.Names.{is_wire};
 ghost use Rattle.rules.specs.Reading.{lowered};

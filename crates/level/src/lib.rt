@@ -1,4 +1,7 @@
 // The pass that finds the largest rank of the records that the client sees: the level of a question, or the length of its control name.
+
+#![tactic(auto)]
+
 ghost use Rattle.std.specs.Prelude.{◌≡◌, true, [], ◌≤◌, length, drop};
 ghost use Rattle.rules.specs.Lists.{is_some, value_or};
 ghost use Rattle.rules.specs.Names.{is_wire};

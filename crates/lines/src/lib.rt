@@ -1,3 +1,6 @@
 // The first fault of a line.
+
+#![tactic(auto)]
+
 pub mod judge;
 mod meanings;

@@ -1,5 +1,8 @@
 // The pass that judges a stream, and finds the client's location, the part of the stream in which records may answer, and the part in which they
 // may make a control name.
+
+#![tactic(auto)]
+
 ghost use Rattle.std.specs.Prelude.{◌≡◌, true, ◌+◌, ◌*◌, ◌≤◌, length, drop, get_or};
 ghost use Rattle.rules.specs.Lists.{begins_with};
 ghost use Rattle.rules.specs.Records.{location, lo_bytes};

@@ -1,2 +1,5 @@
 // The line of a location.
+
+#![tactic(auto)]
+
 pub mod locations;

@@ -1,2 +1,5 @@
 // The line of mail.
+
+#![tactic(auto)]
+
 pub mod mail;

@@ -1,2 +1,5 @@
 // Names put on the wire.
+
+#![tactic(auto)]
+
 pub mod names;

@@ -1,2 +1,5 @@
 // Decimal numbers.
+
+#![tactic(auto)]
+
 pub mod numbers;

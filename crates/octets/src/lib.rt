@@ -1,2 +1,5 @@
 // IPv4: the numbers of an address or a prefix.
+
+#![tactic(auto)]
+
 pub mod octets;

@@ -1,6 +1,9 @@
 // pairs KEY NAME ..: compares each key with the name behind it, both in hexadecimal digits, as asking does: the name's
 // letters are lowered, the key's are not. It prints both, whether they are the same, and how many byte pairs were read
 // to tell. The word - is no bytes.
+
+#![tactic(auto)]
+
 ghost use Rattle.std.specs.Prelude.{◌≤◌, length};
 ghost use Rattle.files.specs.Fronts.{IsFront};
 

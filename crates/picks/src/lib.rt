@@ -1,4 +1,7 @@
 // The pass that picks the record of the answer.
+
+#![tactic(auto)]
+
 ghost use Rattle.std.specs.Prelude.{◌≡◌, true, [], ◌<◌, ◌≤◌, length, drop};
 ghost use Rattle.rules.specs.Lists.{is_some, value_or};
 ghost use Rattle.rules.specs.Records.{lo_bytes};

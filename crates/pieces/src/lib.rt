@@ -1,2 +1,5 @@
 // A byte looked for in a text.
+
+#![tactic(auto)]
+
 pub mod pieces;

@@ -1,4 +1,7 @@
 // The record at a place of a stream.
+
+#![tactic(auto)]
+
 ghost use Rattle.std.specs.Prelude.{◌≡◌, true};
 ghost use Rattle.rules.specs.Lists.{is_some};
 ghost use Rattle.rules.specs.Reading.{record_in};

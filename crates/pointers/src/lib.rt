@@ -1,2 +1,5 @@
 // The lines whose data are a name.
+
+#![tactic(auto)]
+
 pub mod pointers;

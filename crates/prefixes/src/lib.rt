@@ -1,2 +1,5 @@
 // Prefixes.
+
+#![tactic(auto)]
+
 pub mod prefixes;

@@ -1,4 +1,7 @@
 // The rank of a record among those that can answer for a name.
+
+#![tactic(auto)]
+
 ghost use Rattle.std.specs.Prelude.{◌≡◌, true, not, ◌&&◌, length, eqb};
 ghost use Rattle.rules.specs.Lists.{pick, is_some};
 ghost use Rattle.rules.specs.Records.{lo_bytes};

@@ -1,5 +1,8 @@
 // Asking: the outcome of a question and the records of a compiled stream that answer it, found in passes of a fixed number, whatever the number
 // of labels: one over the stream itself, and then at most five over the parts that may make a control name and that may answer.
+
+#![tactic(auto)]
+
 ghost use Rattle.std.specs.Prelude.{◌≡◌, true, map};
 ghost use Rattle.rules.specs.Lists.{lower};
 ghost use Rattle.rules.specs.Names.{is_wire};

@@ -1,2 +1,5 @@
 // Resource records.
+
+#![tactic(auto)]
+
 pub mod resources;

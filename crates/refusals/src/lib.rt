@@ -1,3 +1,6 @@
 // The number that 01 gives each answer of compiling and asking.
+
+#![tactic(auto)]
+
 pub mod faults;
 pub mod replies;

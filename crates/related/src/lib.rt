@@ -1,4 +1,7 @@
 // Whether a record's key is the asked name or an ancestor of it: those alone can answer for it.
+
+#![tactic(auto)]
+
 ghost use Rattle.std.specs.Prelude.{◌≡◌, ◌≤◌, length};
 ghost use Rattle.related.specs.Related.{related, Lengths};
 

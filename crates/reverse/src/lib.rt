@@ -1,2 +1,5 @@
 // The reverse names of addresses.
+
+#![tactic(auto)]
+
 pub mod reverse;

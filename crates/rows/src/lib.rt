@@ -1,2 +1,5 @@
 // The table by kind.
+
+#![tactic(auto)]
+
 pub mod rows;

@@ -43,7 +43,7 @@ place_unseen = record {
 bare_placed : (n : ℕ) (rs : List Record) → map unplaced (placed_from n rs) ≡ map bare rs
 unfolding unplaced placed_from
 bare_placed n [] = refl
-bare_placed n (r ∷ rs) = ap {B = List Placed} (λ l. bare r ∷ l) (bare_placed _ rs)
+bare_placed n (r ∷ rs) = ap {B = List Placed} (λ l. bare r ∷ l) (bare_placed (n + size r) rs)
 
 recs_bare : (rs : List Record) → map (λ p. p.rec) (map bare rs) ≡ rs
 unfolding bare

@@ -1,6 +1,6 @@
 -- Two moments between which no time lies give the same answers.
 use mathlib.Core.Path.{◌≡◌, refl, sym, ap, ap₂, ◌∙◌, subst}
-use Prim.Native.Nat.{ℕ, zero, suc, ◌-◌, ◌≤◌, ◌<◌}
+use Prim.Native.Nat.{ℕ, zero, suc, ◌+◌, ◌-◌, ◌≤◌, ◌<◌}
 use native.Mathlib.Omega.{arith}
 use mathlib.Core.Bool.{Bool, true, false, not, ◌&&◌, ◌||◌}
 use mathlib.Core.List.{List, [], ◌∷◌, map}
@@ -17,7 +17,7 @@ use Rattle.rules.specs.declared.replies.Reply.{Reply}
 use Rattle.rules.specs.Lists.{pick, keep, all, join_all, same_bytes}
 use Rattle.rules.specs.Records.{Record, location, resource}
 use Rattle.rules.specs.Names.{is_wire}
-use Rattle.rules.specs.Bytes.{rdata_of, bytes_of}
+use Rattle.rules.specs.Bytes.{rdata_of, bytes_of, size}
 use Rattle.rules.specs.Answers.{source_records}
 use Rattle.rules.specs.Questions.{Question, Placed, placed_from, location_of, in_time, visible, lifetime_of, Result, answers}
 use Rattle.rules.specs.Reading.{type_of, moment_end, is_client, reply_of, response_of, response_from, refusal, ask_response}
@@ -63,12 +63,14 @@ module _ (earlier later : ℕ) (ordered : earlier ≤ later) where
   location_same_seen : (here : List ℕ) (r : Record) → Located r → SameSeen here r
   unfolding SameSeen visible
   location_same_seen here (location p lo) h = refl
+  location_same_seen here (resource _ _ _ _ _ _) h = elim h [ ]
 
   quiet_same_seen : (here : List ℕ) (s : Shared) (r : Record) → T (quiet_line earlier later (some s)) → Carries s r
       → SameSeen here r
   unfolding SameSeen visible quiet_line
   quiet_same_seen here s (resource owner type lo ttl time rdata) t (carries e f) =
       ap (λ (b : Bool). (eqb (length lo) 0 || same_bytes lo here) && b) (in_time_same ttl time (rw f t))
+  quiet_same_seen here s (location _ _) t c = elim c [ ]
 
   says_same_seen : (here : List ℕ) {rs : List Record} {b : Bool} {o : Option Shared} → Says rs b o
       → T (quiet_line earlier later o) → All (SameSeen here) rs
@@ -98,7 +100,7 @@ module _ (earlier later : ℕ) (ordered : earlier ≤ later) where
       → All (λ p. SameSeen here p.rec) (placed_from n rs)
   unfolding placed_from
   placed_same_seen here n nil = nil
-  placed_same_seen here n (cons h a) = cons h (placed_same_seen here _ a)
+  placed_same_seen here n (cons {x = x} h a) = cons h (placed_same_seen here (n + size x) a)
 
   keep_same_seen : (here : List ℕ) {ps : List Placed} → All (λ p. SameSeen here p.rec) ps
       → keep (λ p. visible here earlier p.rec) ps ≡ keep (λ p. visible here later p.rec) ps

@@ -88,12 +88,14 @@ no_and false b t = tt
 location_hidden : (here : List ℕ) (moment : ℕ) (r : Record) → Located r → T (not (visible here moment r))
 unfolding visible
 location_hidden here moment (location p lo) h = tt
+location_hidden here moment (resource _ _ _ _ _ _) h = elim h [ ]
 
 other_lo_hidden : (here : List ℕ) (moment : ℕ) (s : Shared) (r : Record) → T (not (has_lo_of here (some s))) → Carries s r
     → T (not (visible here moment r))
 unfolding visible has_lo_of
 other_lo_hidden here moment s (resource owner type lo ttl time rdata) t (carries e f) =
     rw e (no_and (eqb (length (lo_bytes s.lo)) 0 || same_bytes (lo_bytes s.lo) here) (in_time moment ttl time) t)
+other_lo_hidden here moment s (location _ _) t c = elim c [ ]
 
 says_hidden : (here : List ℕ) (moment : ℕ) {rs : List Record} {b : Bool} {o : Option Shared} → Says rs b o
     → T (not (has_lo_of here o)) → keep (visible here moment) rs ≡ []

@@ -1,2 +1,5 @@
 // The line of a service.
+
+#![tactic(auto)]
+
 pub mod services;

@@ -1,4 +1,7 @@
 // Both calls together: a source compiled into a lent buffer, and one question put to exactly what was written there.
+
+#![tactic(auto)]
+
 ghost use Rattle.vahmizar.specs.Promises.{Serves};
 
 use compiler::compile::compile;

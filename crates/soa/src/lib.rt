@@ -1,2 +1,5 @@
 // SOA records.
+
+#![tactic(auto)]
+
 pub mod soa;

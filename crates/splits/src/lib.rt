@@ -1,2 +1,5 @@
 // A line split into its fields.
+
+#![tactic(auto)]
+
 pub mod splits;

@@ -1,2 +1,5 @@
 // SRV records.
+
+#![tactic(auto)]
+
 pub mod srv;

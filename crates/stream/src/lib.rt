@@ -1,4 +1,7 @@
 // Where the record at the front of bytes ends.
+
+#![tactic(auto)]
+
 ghost use Rattle.std.specs.Prelude.{◌≡◌, ◌<◌, length};
 ghost use Rattle.stream.specs.Heads.{head_of};
 ghost use Rattle.stream.specs.Spans.{IsSpan};

@@ -1,2 +1,5 @@
 // The lines whose data are a text.
+
+#![tactic(auto)]
+
 pub mod texts;

@@ -1,2 +1,5 @@
 // time.
+
+#![tactic(auto)]
+
 pub mod times;

@@ -1,2 +1,5 @@
 // TXT records.
+
+#![tactic(auto)]
+
 pub mod txt;

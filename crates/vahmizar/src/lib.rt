@@ -1,4 +1,7 @@
 // The calls that a name server makes. specs/Promises.antt says what each promises, and what both together do.
+
+#![tactic(auto)]
+
 ghost use Rattle.vahmizar.specs.Promises.{Compiles, Asks};
 
 mod numbers;

@@ -1,2 +1,5 @@
 // The values of a line's fields.
+
+#![tactic(auto)]
+
 pub mod values;

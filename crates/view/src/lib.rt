@@ -1,4 +1,7 @@
 // What a client sees of a record at a moment.
+
+#![tactic(auto)]
+
 ghost use Rattle.std.specs.Prelude.{◌≡◌, ◌||◌, length, eqb};
 ghost use Rattle.rules.specs.Lists.{same_bytes};
 ghost use Rattle.rules.specs.Records.{lo_bytes};

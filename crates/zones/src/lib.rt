@@ -1,2 +1,5 @@
 // The lines of a zone and of a delegation.
+
+#![tactic(auto)]
+
 pub mod zones;
