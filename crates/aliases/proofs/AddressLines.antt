@@ -55,7 +55,7 @@ host_is s l p = same_read Kind.Host s l p (λ shared owner address. address_reco
 
 pub ruleset alias_laws = (rules, front_count)
 
-pub ruleset alias_line·laws = (rules, alias_fields, holding, room_of, put_of, alias_is)
+pub ruleset alias_line_laws = (rules, alias_fields, holding, room_of, put_of, alias_is)
 
 -- ---- the PTR
 
@@ -98,4 +98,4 @@ module _ (rs ss : List Record) (d : List ℕ) (room : length (bytes_of (rs ++ ss
     pub both_put : (f : List ℕ) (k : ℕ) → IsPut (bytes_of ss) (lent_at a e) f k → IsPut (bytes_of (rs ++ ss)) d (back_at a e f) (a + k)
     both_put f k q = rw (bytes_append rs ss) (then (bytes_of rs) d e a p (bytes_of ss) f k q)
 
-pub ruleset host_line·laws = (rules, host_fields, holding, room_of, put_of, host_is, alias_room, back_starts, back_fits, both_put)
+pub ruleset host_line_laws = (rules, host_fields, holding, room_of, put_of, host_is, alias_room, back_starts, back_fits, both_put)

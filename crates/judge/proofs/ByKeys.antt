@@ -98,7 +98,7 @@ one_byte key h = rw (lt-leb 2 (length key) h)
 pub two_bytes : (key : List ℕ) → 2 ≤ length key → eqb (get_or key 0 0) 0 ≡ (leb 2 (length key) && eqb (get_or key 0 0) 0)
 two_bytes key h = rw (le-leb 2 (length key) h)
 
-pub ruleset location_key·laws = (rules, one_byte, two_bytes)
+pub ruleset location_key_laws = (rules, one_byte, two_bytes)
 
 module _ (rdata : List ℕ) where
   pub no_key : (key : List ℕ) → length key ≡ 0 → seen_record key rdata Seen.Broken ≡ record_in key rdata

@@ -48,7 +48,7 @@ module _ (rdata : List ℕ) (a : get_or rdata 2 0 ≡ 61 → ⊥) (b : get_or rd
     pub lo_read_lem : Flag.Whole (Lo.Code (get_or rdata 3 0) (get_or rdata 4 0)) 5 ≡ flag_in rdata
     lo_read_lem = rw (code rdata lo_long) at (has_lo k).1
 
-pub ruleset known_flag·laws = (rules, equals, star, lo_long, lo_there, lo_read_lem)
+pub ruleset known_flag_laws = (rules, equals, star, lo_long, lo_there, lo_read_lem)
 
 -- ---- the data
 
@@ -61,7 +61,7 @@ module _ (rdata : List ℕ) (high low : ℕ) (w : Bool) (f : Flag) (eh : high �
   unfolding seen_in seen_flag
   data_broken b = rw (← ef, b)
 
-pub ruleset known_data·laws = (rules, ttl_inside, data_read, data_broken)
+pub ruleset known_data_laws = (rules, ttl_inside, data_read, data_broken)
 
 -- ---- the record
 

@@ -188,6 +188,6 @@ pub no_fixed : (rdata : List ℕ) → fixed_in Seen.Broken ≤ length rdata
 unfolding fixed_in
 no_fixed rdata = omega arith
 
-pub ruleset any_flag·laws = (rules, ttl_inside, key_bad, flag_bad, flag_read, whole_fixed, no_fixed)
+pub ruleset any_flag_laws = (rules, ttl_inside, key_bad, flag_bad, flag_read, whole_fixed, no_fixed)
 
-pub ruleset by_flag·laws = (rules, name_bad, name_low, starred, plain_read, whole_fixed, no_fixed)
+pub ruleset by_flag_laws = (rules, name_bad, name_low, starred, plain_read, whole_fixed, no_fixed)

@@ -45,4 +45,4 @@ module _ (shared : Shared) (owner host : List ℕ) (rs : List Record) (n : ℕ) 
 
 pub ruleset exchanger_laws = (rules, front_count, rest_fits, rest_starts, rest_put, mx_room)
 
-pub ruleset mail_line·laws = (rules, ready_fields, mx_label)
+pub ruleset mail_line_laws = (rules, ready_fields, mx_label)

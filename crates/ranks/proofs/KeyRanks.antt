@@ -260,7 +260,7 @@ module _ (role : Role) (name here : List ℕ) (moment : ℕ) (key rdata : List �
         unfolding pick
         seen_one r n k = rw (ranked, ← v, not-false t n, k)
 
-pub ruleset rank_in·laws = (rules, no_record_lem, a_location, unseen, seen_one)
+pub ruleset rank_in_laws = (rules, no_record_lem, a_location, unseen, seen_one)
 
 module _ (name here : List ℕ) (moment : ℕ) (key rdata : List ℕ) where
   -- an ordinary record of another name

@@ -53,4 +53,4 @@ module _ (shared : Shared) (owner host : List ℕ) (rs : List Record) (n : ℕ) 
 
 pub ruleset service_laws = (rules, front_count, rest_fits, rest_starts, rest_put, srv_room)
 
-pub ruleset service_line·laws = (rules, ready_fields, srv_label)
+pub ruleset service_line_laws = (rules, ready_fields, srv_label)

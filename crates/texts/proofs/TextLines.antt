@@ -61,7 +61,7 @@ module _ (w d x : List ℕ) (r : ℕ) (p : IsPut w d x r) (h : length d ≡ 1024
   pub text_long : length x ≡ 1024
   text_long = put_length w d x r p ∙ h
 
-pub ruleset text_at·laws = (rules, text_good, text_fits, text_held, text_few, text_long)
+pub ruleset text_at_laws = (rules, text_good, text_fits, text_held, text_few, text_long)
 
 module _ (text : PlainText) (few : text.len ≤ 1024) (long : length text.bytes ≡ 1024) where
   pub text_within : text.len ≤ length text.bytes

@@ -62,6 +62,6 @@ le_four (a' ∷ b' ∷ []) a b c d l p q r s = absurd (omega arith)
 le_four (a' ∷ b' ∷ c' ∷ []) a b c d l p q r s = absurd (omega arith)
 le_four (a' ∷ b' ∷ c' ∷ d' ∷ e ∷ more) a b c d l p q r s = absurd (omega arith)
 
-pub ruleset from_be·laws = (rules, be_times_fits, be_sum_fits, be_below, be_next, be_end)
+pub ruleset from_be_laws = (rules, be_times_fits, be_sum_fits, be_below, be_next, be_end)
 
-pub ruleset from_le·laws = (rules, le_four)
+pub ruleset from_le_laws = (rules, le_four)

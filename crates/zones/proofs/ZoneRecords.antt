@@ -87,4 +87,4 @@ zone_put serial s h d e f a k p room q r =
     put_of (zone_records serial h) (records_of serial Kind.Zone (split_on 58 s)) (zone_is serial s h p) d (back_at a e f) (a + k)
     (rest_put (soa_record serial h) (host_records h 2 []) d e a room' q f k r)
 
-pub ruleset zone_line·laws = (rules, lendable, contact_short, room_of, zone_is, rest_fits, rest_starts)
+pub ruleset zone_line_laws = (rules, lendable, contact_short, room_of, zone_is, rest_fits, rest_starts)

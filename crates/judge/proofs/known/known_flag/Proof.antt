@@ -1,10 +1,10 @@
 use Rattle.judge.proofs.SeenRecords.{star}
-use Rattle.judge.proofs.KnownRecords.{lo_long, lo_there, lo_read_lem, known_flag·laws}
+use Rattle.judge.proofs.KnownRecords.{lo_long, lo_there, lo_read_lem, known_flag_laws}
 use Rattle.judge.proofs.known.known_flag.Statement.{statement}
 use Rattle.judge.proofs.known.known_flag.Tie as tie
 
 shared-slice-read-match : tie.Need-shared-slice-read-match
-shared-slice-read-match c = search known_flag·laws
+shared-slice-read-match c = search known_flag_laws
 
 shared-slice-read-t9 : tie.Need-shared-slice-read-t9
 shared-slice-read-t9 c =
@@ -17,7 +17,7 @@ shared-slice-read-t11 c =
     lo_long _ m.match.rest.0.1 m.match.rest.1 m.before.before.requires.1
 
 returns : tie.Need-returns
-returns c = search known_flag·laws
+returns c = search known_flag_laws
 
 returns-2 : tie.Need-returns-2
 returns-2 c = star _ c.match.keys2

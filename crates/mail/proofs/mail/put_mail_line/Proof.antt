@@ -1,16 +1,16 @@
-use Rattle.mail.proofs.MailRecords.{mail_line·laws, mail_room, mail_put}
+use Rattle.mail.proofs.MailRecords.{mail_line_laws, mail_room, mail_put}
 use Rattle.hosts.proofs.HostRecords.{lendable}
 use Rattle.mail.proofs.mail.put_mail_line.Statement.{statement}
 use Rattle.mail.proofs.mail.put_mail_line.Tie as tie
 
 slice-aggregate-host-line : tie.Need-slice-aggregate-host-line
-slice-aggregate-host-line c = search mail_line·laws
+slice-aggregate-host-line c = search mail_line_laws
 
 host-line-requires : tie.Need-host-line-requires
-host-line-requires c κs = search mail_line·laws
+host-line-requires c κs = search mail_line_laws
 
 short-at-requires : tie.Need-short-at-requires
-short-at-requires c κs = search mail_line·laws
+short-at-requires c κs = search mail_line_laws
 
 put-exchanger-requires : tie.Need-put-exchanger-requires
 put-exchanger-requires c κs =
@@ -19,7 +19,7 @@ put-exchanger-requires c κs =
     (lendable _ _ _ line, mail_room _ _ _ line read.short-at.ensures _ read.before.before.before.before.before.requires.1)
 
 same_length : tie.Need-same-length
-same_length c = search mail_line·laws
+same_length c = search mail_line_laws
 
 returns : tie.Need-returns
 returns c =

@@ -1,22 +1,22 @@
 use Rattle.hosts.proofs.HostRecords.{lendable}
-use Rattle.services.proofs.ServiceRecords.{service_room, service_put, service_line·laws}
+use Rattle.services.proofs.ServiceRecords.{service_room, service_put, service_line_laws}
 use Rattle.services.proofs.services.put_service_line.Statement.{statement}
 use Rattle.services.proofs.services.put_service_line.Tie as tie
 
 slice-aggregate-host-line : tie.Need-slice-aggregate-host-line
-slice-aggregate-host-line c = search service_line·laws
+slice-aggregate-host-line c = search service_line_laws
 
 host-line-requires : tie.Need-host-line-requires
-host-line-requires c κs = search service_line·laws
+host-line-requires c κs = search service_line_laws
 
 short-at-requires : tie.Need-short-at-requires
-short-at-requires c κs = search service_line·laws
+short-at-requires c κs = search service_line_laws
 
 short-at-requires-2 : tie.Need-short-at-requires-2
-short-at-requires-2 c κs = search service_line·laws
+short-at-requires-2 c κs = search service_line_laws
 
 short-at-requires-3 : tie.Need-short-at-requires-3
-short-at-requires-3 c κs = search service_line·laws
+short-at-requires-3 c κs = search service_line_laws
 
 put-service-requires : tie.Need-put-service-requires
 put-service-requires c κs =
@@ -28,7 +28,7 @@ put-service-requires c κs =
     )
 
 same_length : tie.Need-same-length
-same_length c = search service_line·laws
+same_length c = search service_line_laws
 
 returns : tie.Need-returns
 returns c =
