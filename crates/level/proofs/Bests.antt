@@ -1,26 +1,27 @@
 -- The pass that finds the largest rank.
 use mathlib.Core.Path.{◌≡◌, refl, ap, ◌∙◌, sym}
 use mathlib.Core.Bool.{Bool, true, false, not}
-use mathlib.Core.List.{List, [], ◌∷◌}
+use mathlib.Core.List.{List, [], ◌∷◌, map}
 use mathlib.Core.Option.{Option, none, some}
 use Prim.Native.Nat.{ℕ, ◌-◌, ◌<◌, ◌≤◌, max}
 use native.Mathlib.Omega.{arith}
 use borrow.Author.Rules.{rules}
-use borrow.Author.Tests.{not-false}
+use borrow.Author.Tests.{not-true}
 use lib.ListN.{length, take, drop, drop_of_length-le}
-use Rattle.rules.specs.Lists.{pick, is_some, value_or}
+use Rattle.rules.specs.Lists.{pick, lower, is_some, value_or}
 use Rattle.rules.specs.Names.{is_wire}
 use Rattle.rules.specs.Records.{Record}
 use Rattle.rules.specs.Questions.{visible}
 use Rattle.rules.specs.Reading.{record_in, onto_records, decode}
 use Rattle.rules.proofs.Names.{Wire}
+use Rattle.rules.proofs.Decoding.{wire_lower}
 use Rattle.stream.specs.declared.Span.{Span}
 use Rattle.stream.specs.Spans.{part, IsSpan}
 use Rattle.stream.proofs.Heads.{decode_nil}
-use Rattle.related.specs.Related.{related}
-use Rattle.ranks.specs.Ranks.{role_rank, largest, seen_rank, rank_in}
+use Rattle.ranks.specs.Ranks.{role_rank, ends_in, largest, seen_rank, rank_in}
 use Rattle.ranks.specs.declared.Role.{Role}
 use Rattle.ranks.proofs.KeyRanks.{unrelated}
+use Rattle.ranks.proofs.Related.{not_end}
 use Rattle.level.proofs.Controls.{most_role}
 
 -- ---- a place of whole records
@@ -76,11 +77,11 @@ module _ (role : Role) (name here : List ℕ) (moment : ℕ) (stream : List ℕ)
     pub no_larger : found ≤ best → max best (largest (seen_rank role name here moment) (value_or [] (decode (drop span.next stream)))) ≡ all
     no_larger h = omega (arith, is_found_lem)
 
-  -- a record whose key isn't the name or an ancestor
+  -- a record whose key isn't the end of the name
   pub passed_over : (w : is_some (decode (drop at stream)) ≡ true) (span : Span) (i : IsSpan stream at span) (t : Bool)
-      → t ≡ related name (take (span.middle - span.start) (drop span.start stream)) → not t ≡ true
+      → t ≡ ends_in name (take (span.middle - span.start) (drop span.start stream)) → not t ≡ true
       → max best (largest (seen_rank role name here moment) (value_or [] (decode (drop span.next stream)))) ≡ all
-  passed_over w span i t q n = no_larger w span i 0 (unrelated role name here moment _ _ t q n) (omega arith)
+  passed_over w span i t q n = no_larger w span i 0 (unrelated role name here moment _ _ false (not_end name _ (sym q ∙ not-true t n)) refl) (omega arith)
 
   pub largest_found : length stream ≤ at → best ≡ all
   unfolding largest value_or
@@ -100,13 +101,9 @@ most_seen role name here moment t (r ∷ rs) = omega (arith, go (visible here mo
     go false = unfold pick in omega arith
 
 pub most : (role : Role) (name here : List ℕ) (moment : ℕ) (stream : List ℕ) (best at all : ℕ) → is_wire name ≡ true
-    → max best (largest (seen_rank role name here moment) (value_or [] (decode (drop at stream)))) ≡ all → best ≡ 256 → best ≡ all
+    → max best (largest (seen_rank role (map lower name) here moment) (value_or [] (decode (drop at stream)))) ≡ all → best ≡ 256 → best ≡ all
 most role name here moment stream best at all w e h =
-    omega (arith, most_seen role name here moment (rw w tt) (value_or [] (decode (drop at stream))))
-
--- what rank_in asks
-pub is_there : (name key : List ℕ) (t : Bool) → t ≡ related name key → not t ≡ false → related name key ≡ true
-is_there name key t e n = sym e ∙ not-false t n
+    omega (arith, most_seen role (map lower name) here moment (wire_lower name (rw w tt)) (value_or [] (decode (drop at stream))))
 
 pub none_yet : (n : ℕ) → max 0 n ≡ n
 none_yet n = omega arith

@@ -2,35 +2,31 @@
 
 #![tactic(auto)]
 
-ghost use Rattle.std.specs.Prelude.{◌≡◌, true, [], ◌≤◌, length, drop};
-ghost use Rattle.rules.specs.Lists.{is_some, value_or};
+ghost use Rattle.std.specs.Prelude.{◌≡◌, true, [], map, ◌≤◌, length, drop};
+ghost use Rattle.rules.specs.Lists.{lower, is_some, value_or};
 ghost use Rattle.rules.specs.Names.{is_wire};
 ghost use Rattle.rules.specs.Records.{lo_bytes};
 ghost use Rattle.rules.specs.Reading.{decode};
-ghost use Rattle.related.specs.Related.{Lengths};
 ghost use Rattle.ranks.specs.Ranks.{seen_rank, largest};
 
-use ranks::{Role, rank_in};
-use related::is_related;
+use ranks::{Role, is_end, rank_in};
 use rules::quantities::{Lo, Moment};
 use stream::span_at;
 
-// The largest rank in a stream of whole records from a place on. None is above that of the name's own records. A record whose key isn't
-// the name or an ancestor is passed over by its key alone.
+// The largest rank in a stream of whole records from a place on. None is above that of the name's own records. Most records are ruled out by
+// the end of the name alone, without a call.
 pub fn best_rank(
     stream: &[u8],
-    lengths: &[bool],
     name: &[u8],
     role: Role,
     here: Lo,
     moment: Moment,
     from: usize,
 ) -> usize
-    requires lengths { Lengths lengths.now name.now }
     requires name_value { is_wire name.now ≡ true }
     requires from_in_bounds { from ≤ length stream.now }
     requires stream_value { is_some (decode (drop from stream.now)) ≡ true }
-    ensures { result ≡ largest (seen_rank role name.now (lo_bytes here) moment.0) (value_or [] (decode (drop from stream.now))) }
+    ensures { result ≡ largest (seen_rank role (map lower name.now) (lo_bytes here) moment.0) (value_or [] (decode (drop from stream.now))) }
 {
     let n = stream.len();
     let mut best: usize = 0;
@@ -43,7 +39,7 @@ pub fn best_rank(
         let start = span.start;
         let middle = span.middle;
         let next = span.next;
-        if !is_related(lengths, name, &stream[start..middle]) {
+        if !is_end(name, &stream[start..middle]) {
             at = next;
         } else {
             let found = rank_in(

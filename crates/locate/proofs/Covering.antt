@@ -2,7 +2,7 @@
 use mathlib.Core.Path.{◌≡◌, refl, ap, ◌∙◌, sym}
 use mathlib.Core.Bool.{Bool, true, false, not, ◌&&◌, ◌||◌}
 use mathlib.Core.List.{List, [], ◌∷◌, ◌++◌}
-use mathlib.Core.Option.{none, some}
+use mathlib.Core.Option.{Option, none, some}
 use Prim.Native.Nat.{ℕ, ◌-◌, ◌≤◌}
 use native.Mathlib.Omega.{arith}
 use borrow.Author.Tests.{eqb-false, ne_eqb}
@@ -18,10 +18,10 @@ use Rattle.rules.proofs.Meaning.{sizes_add}
 use Rattle.stream.specs.declared.Span.{Span}
 use Rattle.stream.specs.Spans.{part, IsSpan}
 use Rattle.stream.proofs.Joins.{no_part, parts_join, record_part}
-use Rattle.related.specs.Related.{related}
-use Rattle.ranks.specs.Ranks.{rank_in, largest, seen_rank}
+use Rattle.ranks.specs.Ranks.{ends_in, rank_in, largest, seen_rank}
 use Rattle.ranks.proofs.KeyRanks.{unrelated, other_name, idle}
 use Rattle.ranks.specs.declared.Role.{Role}
+use Rattle.ranks.proofs.Related.{not_end}
 use Rattle.picks.proofs.Picking.{ends}
 use Rattle.locate.specs.Covers.{Covers}
 use Rattle.locate.specs.Reaches.{Passed, Plain}
@@ -44,8 +44,8 @@ module _ (name key rdata : List ℕ) where
   located_rank role prefix lo q here moment = rw q (unfold rank_in seen_rank visible pick in refl)
 
   module _ (owner lo rd : List ℕ) (type ttl time : ℕ) (q : record_in key rdata ≡ some (resource owner type lo ttl time rd)) where
-    pub unrelated_rank : (role : Role) → related name key ≡ false → NoRank role
-    unrelated_rank role u here moment = unrelated role name here moment key rdata false (sym u) refl
+    pub unended : (role : Role) → ends_in name key ≡ false → NoRank role
+    unended role u here moment = unrelated role name here moment key rdata false (not_end name key u) refl
 
     pub no_answer : may_answer name key (wild owner) ≡ false → NoRank Role.Level
     no_answer m here moment = by (wild owner) refl (unfold may_answer in m)

@@ -1,18 +1,18 @@
 -- One record of the pass: a prefix, a location, a record that may answer or not.
 use mathlib.Core.Path.{◌≡◌, ap, ◌∙◌, sym}
 use mathlib.Core.Bool.{Bool, true, false, not, and-true, and-false}
-use mathlib.Core.List.{List, [], ◌∷◌}
+use mathlib.Core.List.{List, [], ◌∷◌, map}
 use mathlib.Core.Option.{some}
 use Prim.Native.Nat.{ℕ, suc, ◌+◌, ◌*◌, ◌-◌, ◌<◌, ◌≤◌}
 use native.Mathlib.Omega.{arith}
 use native.Mathlib.Numerals.{add-one}
 use borrow.Author.Rules.{rules}
 use borrow.Author.Tests.{eq-eqb, ne_eqb, le-leb, lt-leb, not-true, not-false}
-use lib.ListN.{length, take, drop, get_or, length-drop}
+use lib.ListN.{length, take, drop, get_or, length-drop, length-map}
 use lib.Dec.{eqb}
 use Rattle.rules.specs.declared.quantities.Lo.{Lo}
 use Rattle.rules.specs.declared.quantities.Shared.{Shared}
-use Rattle.rules.specs.Lists.{pick, begins_with}
+use Rattle.rules.specs.Lists.{pick, lower, begins_with}
 use Rattle.rules.specs.Records.{location, resource, lo_bytes}
 use Rattle.rules.specs.Bytes.{wild}
 use Rattle.rules.specs.Questions.{matches, better}
@@ -21,7 +21,7 @@ use Rattle.wire.proofs.Parts.{tail_lent}
 use Rattle.judge.specs.declared.Seen.{Seen}
 use Rattle.judge.specs.Seen.{owner_of, seen_record}
 use Rattle.judge.proofs.Shapes.{shaped, is_resource, good_key_lem, owner_wild}
-use Rattle.related.specs.Related.{related}
+use Rattle.ranks.specs.Ranks.{ends_in}
 use Rattle.locate.specs.declared.Located.{Located}
 use Rattle.locate.specs.declared.Step.{Step}
 use Rattle.locate.specs.Locations.{best_seen}
@@ -73,7 +73,7 @@ module _ (name key rdata : List ℕ) (seen : Seen) (e : seen_record key rdata se
   unfolding seen_record step_seen step_of
   step_location found q = rw (← e, q)
 
-  module _ (w : Bool) (type : ℕ) (shared : Shared) (fixed : ℕ) (q : seen ≡ Seen.Resource w type shared fixed) (t : Bool) (k : t ≡ related name key) where
+  module _ (w : Bool) (type : ℕ) (shared : Shared) (fixed : ℕ) (q : seen ≡ Seen.Resource w type shared fixed) (t : Bool) (k : t ≡ ends_in name key) where
     owned : record_in key rdata ≡ some (resource (owner_of w key) type (lo_bytes shared.lo) shared.ttl.0 shared.time.0 (drop fixed rdata))
     owned = is_resource key rdata seen e w type shared fixed q
 
@@ -96,33 +96,33 @@ module _ (name key rdata : List ℕ) (seen : Seen) (e : seen_record key rdata se
 
 pub ruleset step_laws = (rules, step_broken, step_location, step_other, data_there, step_related)
 
--- ---- a record whose key is the name or an ancestor
+-- ---- a record whose key the name ends in
 
 module _ (name key : List ℕ) (w : Bool) (type : ℕ) where
-  pub starred : w ≡ true → step_seen Step.Candidate ≡ related_step name key w type
+  pub starred : w ≡ true → step_seen Step.Candidate ≡ related_step (map lower name) key w type
   unfolding step_seen related_step may_answer may_control
   starred y = rw y
 
   module _ (y : w ≡ false) (own : Bool) (o : own ≡ eqb (length name) (length key)) where
-    own_is : may_answer name key w ≡ own
+    own_is : may_answer (map lower name) key w ≡ own
     unfolding may_answer
-    own_is = rw (y, ← o)
+    own_is = rw (y, length-map name lower, ← o)
 
-    pub is_ns : (r : Step) → type ≡ 2 → step_seen r ≡ Rattle.locate.specs.Steps.seen own true → step_seen r ≡ related_step name key w type
+    pub is_ns : (r : Step) → type ≡ 2 → step_seen r ≡ Rattle.locate.specs.Steps.seen own true → step_seen r ≡ related_step (map lower name) key w type
     unfolding related_step may_control
     is_ns r e h = rw (own_is, y, eq-eqb type 2 e) h
 
     module _ (n : type ≡ 2 → ⊥) where
-      pub is_soa : (r : Step) → type ≡ 6 → step_seen r ≡ Rattle.locate.specs.Steps.seen own true → step_seen r ≡ related_step name key w type
+      pub is_soa : (r : Step) → type ≡ 6 → step_seen r ≡ Rattle.locate.specs.Steps.seen own true → step_seen r ≡ related_step (map lower name) key w type
       unfolding related_step may_control
       is_soa r e h = rw (own_is, y, ne_eqb type 2 n, eq-eqb type 6 e) h
 
       module _ (m : type ≡ 6 → ⊥) where
-        pub own_one : own ≡ true → step_seen Step.Candidate ≡ related_step name key w type
+        pub own_one : own ≡ true → step_seen Step.Candidate ≡ related_step (map lower name) key w type
         unfolding step_seen related_step may_control
         own_one t = rw (own_is, y, ne_eqb type 2 n, ne_eqb type 6 m, t)
 
-        pub not_own : own ≡ false → step_seen Step.Other ≡ related_step name key w type
+        pub not_own : own ≡ false → step_seen Step.Other ≡ related_step (map lower name) key w type
         unfolding step_seen related_step may_control
         not_own t = rw (own_is, y, ne_eqb type 2 n, ne_eqb type 6 m, t)
 

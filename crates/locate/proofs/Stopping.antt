@@ -17,8 +17,7 @@ use Rattle.judge.proofs.Shapes.{shaped}
 use Rattle.stream.specs.declared.Span.{Span}
 use Rattle.stream.specs.Spans.{part, IsSpan}
 use Rattle.stream.proofs.Joins.{no_part, parts_join, record_part}
-use Rattle.related.specs.Related.{related}
-use Rattle.ranks.specs.Ranks.{rank_in, largest, seen_rank}
+use Rattle.ranks.specs.Ranks.{ends_in, rank_in, largest, seen_rank}
 use Rattle.ranks.specs.declared.Role.{Role}
 use Rattle.picks.proofs.Picking.{ends}
 use Rattle.locate.specs.declared.Step.{Step}
@@ -26,8 +25,8 @@ use Rattle.locate.specs.declared.Stop.{Stop}
 use Rattle.locate.specs.Locations.{located_from}
 use Rattle.locate.specs.Reaches.{Plain}
 use Rattle.locate.specs.Steps.{malformed, located, seen, may_answer, may_control, related_step, step_seen, step_of}
-use Rattle.locate.specs.Stops.{IsStop}
-use Rattle.locate.proofs.Covering.{Read, NoRank, located_rank, unrelated_rank, no_answer, no_control}
+use Rattle.locate.specs.Stops.{IsStop, Stopped}
+use Rattle.locate.proofs.Covering.{Read, NoRank, located_rank, unended, no_answer, no_control}
 use Rattle.locate.proofs.Unranked.{one_more}
 
 -- ---- one record
@@ -47,7 +46,7 @@ module _ (name key : List ℕ) where
   unfolding step_of related_step
   step_none none e = refl
   step_none (some (location prefix lo)) e = let z : ◌≡◌ {A = ℕ} 0 1 = cc in absurd (omega arith)
-  step_none (some (resource owner type lo ttl time rdata)) e = absurd (not_malformed (related name key) _ _ e)
+  step_none (some (resource owner type lo ttl time rdata)) e = absurd (not_malformed (ends_in name key) _ _ e)
 
   -- a record with an owner leaves the location as it is
   pub step_same : (client : List ℕ) (best : Best) (a b : Bool) (o : Option Record) (ds : Option (List Record)) → step_of name key o ≡ seen a b
@@ -69,7 +68,7 @@ module _ (name key : List ℕ) where
           let d : prefix ≡ drop 2 key = sym (ap (drop 2) k) in
           let m : l ≡ lo = cc in
           (rw (← d, ← m) q, omega (arith, ap length k))
-      go (some (resource owner type l ttl time rd)) q e = absurd (unfold step_of related_step in not_located (related name key) _ _ lo e)
+      go (some (resource owner type l ttl time rd)) q e = absurd (unfold step_of related_step in not_located (ends_in name key) _ _ lo e)
 
 -- what was met: a record, and in which roles it has no rank
 pub record Met (name key rdata : List ℕ) (a b : Bool) : Type 0 where
@@ -93,9 +92,9 @@ module _ (name key rdata : List ℕ) where
       go : (o : Option Record) → record_in key rdata ≡ o → step_of name key o ≡ seen a b → Met name key rdata a b
       go none q e = unfold step_of in (let z : ◌≡◌ {A = ℕ} 0 1 = cc in absurd (omega arith))
       go (some (location prefix lo)) q e = unfold step_of in (let z : ◌≡◌ {A = ℕ} 0 1 = cc in absurd (omega arith))
-      go (some (resource owner type lo ttl time rd)) q e = by (related name key) refl (unfold step_of related_step in e)
+      go (some (resource owner type lo ttl time rd)) q e = by (ends_in name key) refl (unfold step_of related_step in e)
         where
-          by : (t : Bool) → related name key ≡ t → pick t (seen (may_answer name key (wild owner)) (may_control (wild owner) type)) (seen false false) ≡ seen a b → Met name key rdata a b
+          by : (t : Bool) → ends_in name key ≡ t → pick t (seen (may_answer name key (wild owner)) (may_control (wild owner) type)) (seen false false) ≡ seen a b → Met name key rdata a b
           by true u p = unfold pick in
               let x : may_answer name key (wild owner) ≡ a = cc in
               let y : may_control (wild owner) type ≡ b = cc in
@@ -107,9 +106,9 @@ module _ (name key rdata : List ℕ) where
               }
           by false u p = record {
             read = record { rec = resource owner type lo ttl time rd; is = q };
-            level = λ z. unrelated_rank name key rdata owner lo rd type ttl time q Role.Level u;
-            control = λ z. unrelated_rank name key rdata owner lo rd type ttl time q Role.Control u;
-            zone = λ z. unrelated_rank name key rdata owner lo rd type ttl time q Role.Zone u;
+            level = λ z. unended name key rdata owner lo rd type ttl time q Role.Level u;
+            control = λ z. unended name key rdata owner lo rd type ttl time q Role.Control u;
+            zone = λ z. unended name key rdata owner lo rd type ttl time q Role.Zone u;
           }
 
 -- ---- records that are nothing to the pass

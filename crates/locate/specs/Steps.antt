@@ -4,7 +4,7 @@ use Rattle.std.proofs.Math.Option.{Option, none, some}
 use Rattle.rules.specs.Lists.{pick}
 use Rattle.rules.specs.Records.{Record, location, resource, lo_bytes}
 use Rattle.rules.specs.Bytes.{wild}
-use Rattle.related.specs.Related.{related}
+use Rattle.ranks.specs.Ranks.{ends_in}
 use Rattle.locate.specs.declared.Step.{Step}
 
 -- what a record is to the pass: malformed; a location, with its lo; or one that may answer, may make a control name, both or neither
@@ -21,7 +21,7 @@ step_seen Step.Candidate = seen true false
 step_seen Step.Control = seen false true
 step_seen Step.Other = seen false false
 
--- of a record whose key is the name or an ancestor: a wildcard's, or one of the name itself, may answer
+-- of a record whose key the name ends in: a wildcard's, or one of the name itself, may answer
 unfoldable pub may_answer : List ℕ → List ℕ → Bool → Bool
 may_answer name key w = w || eqb (length name) (length key)
 
@@ -35,4 +35,4 @@ related_step name key w type = seen (may_answer name key w) (may_control w type)
 unfoldable pub step_of : List ℕ → List ℕ → Option Record → Stepped
 step_of name key none = malformed
 step_of name key (some (location prefix lo)) = located lo
-step_of name key (some (resource owner type lo ttl time rdata)) = pick (related name key) (related_step name key (wild owner) type) (seen false false)
+step_of name key (some (resource owner type lo ttl time rdata)) = pick (ends_in name key) (related_step name key (wild owner) type) (seen false false)

@@ -3,12 +3,11 @@
 
 #![tactic(auto)]
 
-ghost use Rattle.std.specs.Prelude.{◌≡◌, true, ◌+◌, ◌*◌, ◌≤◌, length, drop, get_or};
-ghost use Rattle.rules.specs.Lists.{begins_with};
+ghost use Rattle.std.specs.Prelude.{◌≡◌, true, map, ◌+◌, ◌*◌, ◌≤◌, length, drop, get_or};
+ghost use Rattle.rules.specs.Lists.{lower, begins_with};
 ghost use Rattle.rules.specs.Records.{location, lo_bytes};
 ghost use Rattle.rules.specs.Questions.{matches, better};
 ghost use Rattle.rules.specs.Reading.{record_in, decode};
-ghost use Rattle.related.specs.Related.{Lengths};
 ghost use Rattle.locate.specs.Covers.{Covered};
 ghost use Rattle.locate.specs.Locations.{best_seen, judged_lo, located_in};
 ghost use Rattle.locate.specs.Grown.{grown_to};
@@ -16,7 +15,7 @@ ghost use Rattle.locate.specs.Steps.{seen, related_step, step_seen, step_of};
 ghost use Rattle.locate.specs.Stops.{IsStop};
 
 use judge::{Seen, record_in};
-use related::is_related;
+use ranks::is_end;
 use rules::quantities::Lo;
 use stream::span_at;
 use wire::get::wide;
@@ -107,9 +106,9 @@ fn better_in(client: &[u8], located: Located, found: Lo, key: &[u8]) -> Located
     }
 }
 
-// What a record is whose key is the name or an ancestor.
+// What a record is whose key the name ends in.
 fn related_step(name: &[u8], key: &[u8], wild: bool, rtype: u16) -> Step
-    ensures { step_seen result ≡ related_step name.now key.now wild rtype }
+    ensures { step_seen result ≡ related_step (map lower name.now) key.now wild rtype }
 {
     if wild {
         return Step::Candidate;
@@ -147,9 +146,8 @@ fn type_in(rdata: &[u8]) -> u16
 }
 
 // What a record is to the pass.
-fn step_in(lengths: &[bool], name: &[u8], key: &[u8], rdata: &[u8]) -> Step
-    requires { Lengths lengths.now name.now }
-    ensures { step_seen result ≡ step_of name.now key.now (record_in key.now rdata.now) }
+fn step_in(name: &[u8], key: &[u8], rdata: &[u8]) -> Step
+    ensures { step_seen result ≡ step_of (map lower name.now) key.now (record_in key.now rdata.now) }
 {
     match record_in(key, rdata) {
         Seen::Broken => Step::Broken,
@@ -160,7 +158,7 @@ fn step_in(lengths: &[bool], name: &[u8], key: &[u8], rdata: &[u8]) -> Step
             shared: _,
             fixed: _,
         } => {
-            if !is_related(lengths, name, key) {
+            if !is_end(name, key) {
                 return Step::Other;
             }
             related_step(name, key, wild, type_in(rdata))
@@ -169,10 +167,9 @@ fn step_in(lengths: &[bool], name: &[u8], key: &[u8], rdata: &[u8]) -> Step
 }
 
 // Passes over records that are nothing to the pass. Most are, so this loop keeps no more than it needs to judge them.
-fn next_stop(stream: &[u8], lengths: &[bool], name: &[u8], from: usize) -> Stop
-    requires lengths { Lengths lengths.now name.now }
-    requires from_in_bounds { from ≤ length stream.now }
-    ensures { IsStop name.now stream.now from result }
+fn next_stop(stream: &[u8], name: &[u8], from: usize) -> Stop
+    requires { from ≤ length stream.now }
+    ensures { IsStop (map lower name.now) stream.now from result }
 {
     let n = stream.len();
     let mut at = from;
@@ -181,7 +178,7 @@ fn next_stop(stream: &[u8], lengths: &[bool], name: &[u8], from: usize) -> Stop
         let start = span.start;
         let middle = span.middle;
         let next = span.next;
-        match step_in(lengths, name, &stream[start..middle], &stream[middle..next]) {
+        match step_in(name, &stream[start..middle], &stream[middle..next]) {
             Step::Other => {
                 at = next;
             }
@@ -221,10 +218,9 @@ fn grown(part: Part, at: usize, next: usize) -> Part
 }
 
 // Every record is read, also behind the last location: a stream is judged whole before anything of it is answered.
-pub fn judge_and_locate(stream: &[u8], client: &[u8], lengths: &[bool], name: &[u8]) -> Judged
-    requires { Lengths lengths.now name.now }
+pub fn judge_and_locate(stream: &[u8], client: &[u8], name: &[u8]) -> Judged
     ensures result_value { judged_lo result ≡ located_in client.now (decode stream.now) }
-    ensures covered { Covered name.now stream.now result }
+    ensures covered { Covered (map lower name.now) stream.now result }
 {
     let n = stream.len();
     let mut located = Located {
@@ -235,7 +231,7 @@ pub fn judge_and_locate(stream: &[u8], client: &[u8], lengths: &[bool], name: &[
     let mut control = Part { from: 0, until: 0 };
     let mut at: usize = 0;
     while at < n {
-        match next_stop(stream, lengths, name, at) {
+        match next_stop(stream, name, at) {
             Stop::Ended => {
                 at = n;
             }

@@ -16,8 +16,7 @@ use Rattle.rules.specs.Lists.{pick, same_bytes}
 use Rattle.rules.specs.Names.{NameRead, named, misnamed, name_byte, label, longest_name, if_not_too_long, name_from, name_of, wire_in, wire_of}
 use Rattle.rules.specs.declared.faults.NameFault.{NameFault}
 use Rattle.buffer.specs.Put.{IsPut}
-use Rattle.rules.proofs.Lists.{other_length_lem}
-use Rattle.wire.proofs.Compare.{same_next, differs, same_end}
+use Rattle.wire.proofs.Compare.{other_length, same_next, differs, same_end}
 use Rattle.wire.proofs.Steps.{left_at, take_put}
 use Rattle.names.specs.Views.{is_named}
 use Rattle.buffer.proofs.Front.{put_by, on}
@@ -235,4 +234,4 @@ module _ (s d out : List ℕ) (start i : ℕ) (e : Putting s d out start i) (n :
           ∙ rw g (on out d i e.behind) in
           put_by (wire_of s) d (set (set out start (length s - start)) (length s + 1) 0) (length s + 2) (simp length-set k) y f b
 
-pub ruleset wire_laws = (other_byte, other_length_lem, begin, room, root_room, root, dot, plain, plain_few, end_dot, last_room, end_label, rules)
+pub ruleset wire_laws = (other_byte, other_length, begin, room, root_room, root, dot, plain, plain_few, end_dot, last_room, end_label, rules)

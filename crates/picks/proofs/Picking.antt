@@ -6,7 +6,7 @@ use mathlib.Core.Option.{Option, none, some}
 use Prim.Native.Nat.{ℕ, zero, suc, ◌+◌, ◌-◌, ◌<◌, ◌≤◌}
 use native.Mathlib.Omega.{arith}
 use borrow.Author.Rules.{rules}
-use borrow.Author.Tests.{eq-eqb, ne_eqb}
+use borrow.Author.Tests.{eq-eqb, ne_eqb, not-true}
 use lib.ListN.{length, take, drop, length-drop, drop_of_length-le}
 use lib.Seq.{length-take-le}
 use lib.Dec.{eqb}
@@ -26,10 +26,10 @@ use Rattle.stream.specs.Spans.{IsSpan}
 use Rattle.stream.proofs.Heads.{decode_nil}
 use Rattle.stream.proofs.Joins.{key_there}
 use Rattle.view.specs.Views.{sharing}
-use Rattle.related.specs.Related.{related}
-use Rattle.ranks.specs.Ranks.{seen_rank, rank_in}
+use Rattle.ranks.specs.Ranks.{ends_in, seen_rank, rank_in}
 use Rattle.ranks.specs.declared.Role.{Role}
 use Rattle.ranks.proofs.KeyRanks.{unrelated}
+use Rattle.ranks.proofs.Related.{not_end}
 use Rattle.picks.specs.Picks.{wanted, wanted_in, reply_in, picked_from}
 use Rattle.judge.proofs.Shapes.{shaped, size_is}
 use Rattle.level.proofs.Bests.{Whole, whole_at, record_whole, rest_whole}
@@ -177,12 +177,12 @@ module _ (type : ℕ) (role : Role) (name here : List ℕ) (moment best : ℕ) (
         ∙ sym (pass_by type role name here moment best at left whole.rec _ (is_wanted ∙ y))
         ∙ left_over
 
-  -- a record whose key isn't the name or an ancestor is of no level
+  -- a record whose key isn't the end of the name is of no level
   pub passed_over : 0 < best → (w : is_some (decode (drop at stream)) ≡ true) (span : Span) (i : IsSpan stream at span) (t : Bool)
-      → t ≡ related name (take (span.middle - span.start) (drop span.start stream)) → not t ≡ true
+      → t ≡ ends_in name (take (span.middle - span.start) (drop span.start stream)) → not t ≡ true
       → picked_from type role name here moment best span.next left (value_or [] (decode (drop span.next stream))) ≡ all
   passed_over b w span i t q n =
-      not_picked w span i false (other_rank type role name here moment best _ _ 0 (unrelated role name here moment _ _ t q n) (λ z. omega arith)) refl
+      not_picked w span i false (other_rank type role name here moment best _ _ 0 (unrelated role name here moment _ _ false (not_end name _ (sym q ∙ not-true t n)) refl) (λ z. omega arith)) refl
 
   pub none_left : length stream ≤ at → Reply.NoMore ≡ all
   unfolding picked_from placed_from keep value_or reply_of

@@ -2,24 +2,22 @@
 
 #![tactic(auto)]
 
-ghost use Rattle.std.specs.Prelude.{◌≡◌, true, [], ◌<◌, ◌≤◌, length, drop};
-ghost use Rattle.rules.specs.Lists.{is_some, value_or};
+ghost use Rattle.std.specs.Prelude.{◌≡◌, true, [], map, ◌<◌, ◌≤◌, length, drop};
+ghost use Rattle.rules.specs.Lists.{lower, is_some, value_or};
 ghost use Rattle.rules.specs.Records.{lo_bytes};
 ghost use Rattle.rules.specs.Questions.{lifetime_of};
 ghost use Rattle.rules.specs.Reading.{record_in, decode};
-ghost use Rattle.related.specs.Related.{related, Lengths};
 ghost use Rattle.view.specs.Views.{sharing};
 ghost use Rattle.picks.specs.Picks.{wanted_in, reply_in, picked_from};
 
 use judge::Seen;
 use judge::known::known_in;
-use ranks::{Role, rank_in};
-use related::is_related;
+use ranks::{Role, is_end, rank_in};
 use rules::quantities::{Lo, Moment, Shared, Ttl};
 use rules::replies::Reply;
 use stream::span_at;
 
-// Whether a record whose key is the name or an ancestor is of a rank and of the type asked for, 255 for any.
+// Whether a record is of a rank and of the type asked for, 255 for any.
 fn is_wanted(
     name: &[u8],
     qtype: u16,
@@ -30,9 +28,8 @@ fn is_wanted(
     key: &[u8],
     rdata: &[u8],
 ) -> bool
-    requires key_value { related name.now key.now ≡ true }
-    requires rdata_value { is_some (record_in key.now rdata.now) ≡ true }
-    ensures { result ≡ wanted_in qtype role name.now (lo_bytes here) moment.0 best (record_in key.now rdata.now) }
+    requires { is_some (record_in key.now rdata.now) ≡ true }
+    ensures { result ≡ wanted_in qtype role (map lower name.now) (lo_bytes here) moment.0 best (record_in key.now rdata.now) }
 {
     if rank_in(name, role, here, moment, key, rdata) != best {
         return false;
@@ -110,7 +107,6 @@ fn reply_in(moment: Moment, end: usize, key: &[u8], rdata: &[u8]) -> Reply
 // The record of this ordinal, from 0, among those of a rank and a type in a stream of whole records from a place on.
 pub fn pick_record(
     stream: &[u8],
-    lengths: &[bool],
     name: &[u8],
     qtype: u16,
     role: Role,
@@ -121,10 +117,9 @@ pub fn pick_record(
     from: usize,
 ) -> Reply
     requires best_nonzero { 0 < best }
-    requires lengths { Lengths lengths.now name.now }
     requires from_in_bounds { from ≤ length stream.now }
     requires stream_value { is_some (decode (drop from stream.now)) ≡ true }
-    ensures { result ≡ picked_from qtype role name.now (lo_bytes here) moment.0 best from ordinal (value_or [] (decode (drop from stream.now))) }
+    ensures { result ≡ picked_from qtype role (map lower name.now) (lo_bytes here) moment.0 best from ordinal (value_or [] (decode (drop from stream.now))) }
 {
     let n = stream.len();
     let mut left = ordinal;
@@ -134,7 +129,7 @@ pub fn pick_record(
         let start = span.start;
         let middle = span.middle;
         let next = span.next;
-        if !is_related(lengths, name, &stream[start..middle]) {
+        if !is_end(name, &stream[start..middle]) {
             at = next;
         } else {
             if is_wanted(

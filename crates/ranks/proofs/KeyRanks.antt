@@ -1,12 +1,12 @@
 -- The rank of a record is that of its key, and what is not related to the name has none.
 use mathlib.Core.Path.{◌≡◌, refl, ap, ◌∙◌, sym}
-use mathlib.Core.Bool.{Bool, true, false, not, ◌&&◌, ◌||◌, or-false}
+use mathlib.Core.Bool.{Bool, true, false, not, ◌&&◌, ◌||◌}
 use mathlib.Core.List.{List, [], ◌∷◌, map}
 use mathlib.Core.Option.{Option, none, some}
 use Prim.Native.Nat.{ℕ}
 use native.Mathlib.Omega.{arith}
 use borrow.Author.Rules.{rules}
-use borrow.Author.Tests.{not-true, not-false, eqb-true, eqb-false, eq-eqb, ne_eqb}
+use borrow.Author.Tests.{not-true, not-false, eq-eqb, ne_eqb}
 use lib.ListN.{length, drop}
 use lib.Dec.{T, leb, eqb}
 use Rattle.rules.specs.declared.quantities.Lo.{Lo}
@@ -17,16 +17,15 @@ use Rattle.rules.specs.Bytes.{wild}
 use Rattle.rules.specs.Questions.{visible, ordinary_of, wildcard_of, ancestors, of_type}
 use Rattle.rules.specs.Reading.{lowered, ordinary_key, wildcard_key, record_in}
 use Rattle.rules.proofs.Tests.{tests, and_l, and_r}
-use Rattle.rules.proofs.Lists.{same_length, OnSome, other_length_lem}
+use Rattle.rules.proofs.Lists.{same_length, OnSome}
 use Rattle.rules.proofs.Decoding.{lower_fixed}
 use Rattle.judge.specs.declared.Seen.{Seen}
 use Rattle.keys.specs.Keys.{good_key}
 use Rattle.judge.specs.Seen.{owner_of, seen_record}
 use Rattle.view.specs.Views.{sharing}
-use Rattle.ranks.specs.Ranks.{rank_among, rank_of, control_among, control_rank, role_rank, key_rank, typed_rank, role_key_rank, seen_rank, rank_in}
+use Rattle.ranks.specs.Ranks.{rank_among, rank_of, control_among, control_rank, role_rank, among, key_rank, typed_rank, role_key_rank, seen_rank, rank_in}
 use Rattle.ranks.specs.declared.Role.{Role}
-use Rattle.related.specs.Related.{among, related}
-use Rattle.related.proofs.Ancestors.{shorter}
+use Rattle.wire.proofs.Compare.{other_length}
 use Rattle.judge.proofs.Shapes.{FromKey, Shape, shape, shaped, is_false, is_resource, good_key_lem, owner_wild}
 
 -- ---- keys
@@ -104,7 +103,7 @@ module _ (type ttl time : ℕ) (lo rd : List ℕ) where
 
   control_by_key : (wanted : ℕ) → of_type wanted (resource [] type lo ttl time rd) ≡ eqb wanted type → (name key owner : List ℕ) (w : Bool) → owner ≡ owner_of w key → T (good_key w key)
       → control_rank wanted name (resource owner type lo ttl time rd) ≡ typed_rank wanted name key w type
-  unfolding control_rank typed_rank owner_of good_key related of_type pick
+  unfolding control_rank typed_rank owner_of good_key among of_type pick
   control_by_key wanted o name key owner true e g = unfold wild begins_with in rw e (no_control wanted (name ∷ ancestors name) (1 ∷ 42 ∷ key) refl)
   control_by_key wanted o name key owner false e g =
       rw (e, ← o) (control_among_lem wanted (name ∷ ancestors name) key (ordinary_plain key g) (ordinary_lowered key g))
@@ -117,47 +116,24 @@ module _ (type ttl time : ℕ) (lo rd : List ℕ) where
 
 -- ---- the code's tests
 
--- a key that is the name or an ancestor is the name exactly if it is as long
-module _ (name key : List ℕ) where
-  not_above : length name ≡ length key → among key (ancestors name) ≡ false
-  unfolding ancestors
-  not_above l = shorter 0 name key (omega arith)
-
-  pub other : (length name ≡ length key → ⊥) → same_bytes key name ≡ false
-  other n = sym (other_length_lem key name (λ e. n (sym e)))
-
-  module _ (r : related name key ≡ true) (w own : Bool) (o : own ≡ eqb (length name) (length key)) where
-    as_long : own ≡ true → length name ≡ length key
-    as_long y = eqb-true _ _ (sym o ∙ y)
-
-    not_as_long : own ≡ false → length name ≡ length key → ⊥
-    not_as_long n = eqb-false _ _ (sym o ∙ n)
-
-    pub wild_own : w ≡ true → own ≡ true → 0 ≡ key_rank name key w
-    unfolding key_rank pick
-    wild_own e y = rw (e, not_above (as_long y))
-
-    pub wild_above : w ≡ true → own ≡ false → length key ≡ key_rank name key w
-    unfolding key_rank pick related among
-    wild_above e n =
-        let q : among key (ancestors name) ≡ true = rw (other (not_as_long n)) at r in
-        rw (e, q)
-
-    pub plain_own : w ≡ false → own ≡ true → 256 ≡ key_rank name key w
-    unfolding key_rank pick related among
-    plain_own e y =
-        let q : same_bytes key name ≡ true = rw (not_above (as_long y), or-false) at r in
-        rw (e, q)
-
-    pub plain_above : w ≡ false → own ≡ false → 0 ≡ key_rank name key w
-    unfolding key_rank pick
-    plain_above e n = rw (e, other (not_as_long n))
-
-  plain_other : (length name ≡ length key → ⊥) → key_rank name key false ≡ 0
+module _ (name key : List ℕ) (t : Bool) where
+  pub wild_is : (w : Bool) → w ≡ true → t ≡ among key (ancestors name) → t ≡ true → length key ≡ key_rank name key w
   unfolding key_rank pick
-  plain_other n = rw (other n)
+  wild_is w e q y = rw (e, ← q, y)
 
-pub ruleset rank_laws = (rules, wild_own, wild_above, plain_own, plain_above)
+  pub wild_not : (w : Bool) → w ≡ true → t ≡ among key (ancestors name) → t ≡ false → 0 ≡ key_rank name key w
+  unfolding key_rank pick
+  wild_not w e q y = rw (e, ← q, y)
+
+  pub plain_is : (w : Bool) → w ≡ false → t ≡ same_bytes key name → t ≡ true → 256 ≡ key_rank name key w
+  unfolding key_rank pick
+  plain_is w e q y = rw (e, ← q, y)
+
+  pub plain_not : (w : Bool) → w ≡ false → t ≡ same_bytes key name → t ≡ false → 0 ≡ key_rank name key w
+  unfolding key_rank pick
+  plain_not w e q y = rw (e, ← q, y)
+
+pub ruleset rank_laws = (rules, wild_is, wild_not, plain_is, plain_not)
 
 -- the same of a key that is the name or an ancestor
 pub no_type : (k w : ℕ) (wild : Bool) (type : ℕ) → (w ≡ type → ⊥) → 0 ≡ pick (not wild && eqb w type) k 0
@@ -180,7 +156,7 @@ module _ (name key : List ℕ) (role : Role) (wild : Bool) (type : ℕ) (r : ℕ
   unfolding role_key_rank
   role_level e h = rw e h
 
-  module _ (a : related name key ≡ true) where
+  module _ (a : (same_bytes key name || among key (ancestors name)) ≡ true) where
     pub role_control : role ≡ Role.Control → r ≡ pick (not wild && eqb 2 type) (length key) 0 → r ≡ role_key_rank role name key wild type
     unfolding role_key_rank typed_rank pick
     role_control e h = rw (e, a) h
@@ -193,14 +169,8 @@ pub ruleset role_laws = (rules, role_level, role_control, role_zone)
 
 -- ---- one record
 
-pick_same : (b : Bool) (n : ℕ) → pick b n n ≡ n
-unfolding pick
-pick_same true n = refl
-pick_same false n = refl
-
 module _ (role : Role) (name here : List ℕ) (moment : ℕ) (key rdata : List ℕ) where
-  no_rank : related name key ≡ false → (w : Bool) → key_rank name key w ≡ 0
-  unfolding related among
+  no_rank : (same_bytes key name || among key (ancestors name)) ≡ false → (w : Bool) → key_rank name key w ≡ 0
   no_rank e w = go (same_bytes key name) (among key (ancestors name)) refl refl e w
     where
       go : (s a : Bool) → same_bytes key name ≡ s → among key (ancestors name) ≡ a → (s || a) ≡ false → (w : Bool) → key_rank name key w ≡ 0
@@ -209,7 +179,7 @@ module _ (role : Role) (name here : List ℕ) (moment : ℕ) (key rdata : List �
       go false false p q e true = unfold key_rank pick in rw q
       go false false p q e false = unfold key_rank pick in rw p
 
-  no_typed : related name key ≡ false → (wanted : ℕ) (w : Bool) (type : ℕ) → typed_rank wanted name key w type ≡ 0
+  no_typed : (same_bytes key name || among key (ancestors name)) ≡ false → (wanted : ℕ) (w : Bool) (type : ℕ) → typed_rank wanted name key w type ≡ 0
   unfolding typed_rank
   no_typed e wanted w type = rw e (go (not w && eqb wanted type))
     where
@@ -217,13 +187,18 @@ module _ (role : Role) (name here : List ℕ) (moment : ℕ) (key rdata : List �
       go true = unfold pick in refl
       go false = unfold pick in refl
 
-  no_role : related name key ≡ false → (w : Bool) (type : ℕ) → (role : Role) → role_key_rank role name key w type ≡ 0
+  no_role : (same_bytes key name || among key (ancestors name)) ≡ false → (w : Bool) (type : ℕ) → (role : Role) → role_key_rank role name key w type ≡ 0
   unfolding role_key_rank
   no_role e w type Role.Level = no_rank e w
   no_role e w type Role.Control = no_typed e 2 w type
   no_role e w type Role.Zone = no_typed e 6 w type
 
-  pub unrelated : (t : Bool) → t ≡ related name key → not t ≡ true → 0 ≡ rank_in role name here moment (record_in key rdata)
+  pick_same : (b : Bool) (n : ℕ) → pick b n n ≡ n
+  unfolding pick
+  pick_same true n = refl
+  pick_same false n = refl
+
+  pub unrelated : (t : Bool) → t ≡ (same_bytes key name || among key (ancestors name)) → not t ≡ true → 0 ≡ rank_in role name here moment (record_in key rdata)
   unfolding rank_in seen_rank
   unrelated t q n = go (record_in key rdata) (shape key rdata)
     where
@@ -260,9 +235,18 @@ module _ (role : Role) (name here : List ℕ) (moment : ℕ) (key rdata : List �
         unfolding pick
         seen_one r n k = rw (ranked, ← v, not-false t n, k)
 
-pub ruleset rank_in_laws = (rules, no_record_lem, a_location, unseen, seen_one)
+-- what role_rank asks
+pub is_there : (t x : Bool) → t ≡ x → not t ≡ false → x ≡ true
+is_there t x e n = sym e ∙ not-false t n
+
+pub ruleset rank_in_laws = (rules, unrelated, no_record_lem, a_location, unseen, seen_one, is_there)
 
 module _ (name here : List ℕ) (moment : ℕ) (key rdata : List ℕ) where
+  same_picked : (b : Bool) (n : ℕ) → pick b n n ≡ n
+  unfolding pick
+  same_picked true n = refl
+  same_picked false n = refl
+
   -- an ordinary record of another name
   pub other_name : (owner lo rd : List ℕ) (type ttl time : ℕ) → record_in key rdata ≡ some (resource owner type lo ttl time rd) → wild owner ≡ false → (length name ≡ length key → ⊥)
       → 0 ≡ rank_in Role.Level name here moment (record_in key rdata)
@@ -278,8 +262,8 @@ module _ (name here : List ℕ) (moment : ℕ) (key rdata : List ℕ) where
           let y : ◌≡◌ {A = ℕ} 0 1 = cc in
           absurd (omega arith)
       go false p g =
-          rw (by_key type ttl time lo rd Role.Level name key owner false p g, plain_other name key n)
-          (sym (pick_same (visible here moment (resource owner type lo ttl time rd)) 0))
+          rw (by_key type ttl time lo rd Role.Level name key owner false p g, ← (plain_not name key false false refl (other_length key name (λ z. n (sym z))) refl))
+          (sym (same_picked (visible here moment (resource owner type lo ttl time rd)) 0))
 
   -- a wildcard, or a record of another type, makes no control name and no zone
   abbrev pub Idle : Role → Bool → ℕ → Type 0
@@ -299,4 +283,4 @@ module _ (name here : List ℕ) (moment : ℕ) (key rdata : List ℕ) where
   idle role owner lo rd type ttl time e o =
       let s : FromKey key rdata owner lo rd = shaped key rdata (resource owner type lo ttl time rd) e in
       let w : wild owner ≡ s.w = ap wild s.owned ∙ owner_wild s.w key s.good in
-      rw (e, by_key type ttl time lo rd role name key owner s.w s.owned s.good, idle_rank role s.w type (rw w at o)) (sym (pick_same (visible here moment (resource owner type lo ttl time rd)) 0))
+      rw (e, by_key type ttl time lo rd role name key owner s.w s.owned s.good, idle_rank role s.w type (rw w at o)) (sym (same_picked (visible here moment (resource owner type lo ttl time rd)) 0))

@@ -1,1 +1,4 @@
+pub mod Lowering
+pub mod Ranking
+pub mod Related
 pub mod KeyRanks

@@ -1,10 +1,9 @@
 -- The level and the control name of a question by numbers: the rank of each record, and the records of the largest rank.
-use Rattle.std.specs.Prelude.{ℕ, max, Bool, not, ◌&&◌, List, [], ◌∷◌, length, eqb}
+use Rattle.std.specs.Prelude.{ℕ, ◌-◌, max, Bool, false, not, ◌&&◌, ◌||◌, List, [], ◌∷◌, length, drop, eqb}
 use Rattle.std.proofs.Math.Option.{Option, none, some}
 use Rattle.rules.specs.Lists.{pick, keep, same_bytes}
 use Rattle.rules.specs.Records.{Record}
 use Rattle.rules.specs.Questions.{visible, ordinary_of, wildcard_of, ancestors, of_type}
-use Rattle.related.specs.Related.{among, related}
 use Rattle.ranks.specs.declared.Role.{Role}
 
 -- of a wildcard record: the length of the first of these names that it is a wildcard of, or 0
@@ -41,11 +40,19 @@ module _ {A : Type 0} where
 
 -- ---- as the code finds it, from the key alone
 
+unfoldable pub among : List ℕ → List (List ℕ) → Bool
+among key [] = false
+among key (a ∷ names) = same_bytes key a || among key names
+
+-- whether a name ends in a key; so it does in those that can answer for it
+unfoldable pub ends_in : List ℕ → List ℕ → Bool
+ends_in name key = same_bytes key (drop (length name - length key) name)
+
 unfoldable pub key_rank : List ℕ → List ℕ → Bool → ℕ
 key_rank name key wild = pick wild (pick (among key (ancestors name)) (length key) 0) (pick (same_bytes key name) 256 0)
 
 unfoldable pub typed_rank : ℕ → List ℕ → List ℕ → Bool → ℕ → ℕ
-typed_rank wanted name key wild type = pick (not wild && eqb wanted type) (pick (related name key) (length key) 0) 0
+typed_rank wanted name key wild type = pick (not wild && eqb wanted type) (pick (same_bytes key name || among key (ancestors name)) (length key) 0) 0
 
 unfoldable pub role_key_rank : Role → List ℕ → List ℕ → Bool → ℕ → ℕ
 role_key_rank Role.Level name key wild type = key_rank name key wild

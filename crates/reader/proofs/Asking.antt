@@ -7,8 +7,7 @@ use Prim.Native.Nat.{ℕ, ◌+◌, ◌<◌, ◌≤◌}
 use native.Mathlib.Omega.{arith}
 use borrow.Author.Rules.{rules}
 use borrow.Author.Tests.{eq-eqb, ne_eqb, le-leb, lt-leb, not-false}
-use lib.ListN.{length, take, length-map}
-use lib.Seq.{length-take-le}
+use lib.ListN.{length}
 use lib.Dec.{eqb}
 use Rattle.rules.specs.declared.quantities.Lo.{Lo}
 use Rattle.rules.specs.declared.replies.Outcome.{Outcome}
@@ -20,17 +19,13 @@ use Rattle.rules.specs.Names.{is_wire}
 use Rattle.rules.specs.Records.{Record, lo_bytes}
 use Rattle.rules.specs.Bytes.{size}
 use Rattle.rules.specs.Questions.{Question, Placed, placed_from, location_of, answers}
-use Rattle.rules.specs.Reading.{moment_end, is_client, decode, refusal, response_from, response_decoded, ask_response}
+use Rattle.rules.specs.Reading.{moment_end, is_client, decode, refusal, response_of, response_from, response_decoded, ask_response}
 use Rattle.ranks.specs.declared.Role.{Role}
 use Rattle.locate.specs.declared.Judged.{Judged}
 use Rattle.locate.specs.Covers.{Covers, Covered}
 use Rattle.locate.specs.Locations.{located_in, judged_lo}
-use Rattle.rules.proofs.Tests.{is_true}
-use Rattle.rules.proofs.Names.{short_of}
 use Rattle.rules.proofs.Decoding.{wire_lower}
-use Rattle.buffer.specs.Put.{IsPut}
-use Rattle.buffer.proofs.Puts.{front, within}
-use Rattle.reader.specs.Answers.{answered_from, decided_from}
+use Rattle.reader.specs.Answers.{answered_from}
 use Rattle.reader.proofs.Answering.{answer_is}
 
 -- ---- the client
@@ -58,13 +53,6 @@ unfolding response_from answers
 replied q ordinal rs w =
     rw (placed_back 0 rs) (sym (answer_is q.type (map lower q.name) (location_of q.client rs) q.moment ordinal rs (wire_lower q.name (rw w tt))))
 
--- the definition lowers the name's letters itself
-decided : (q : Question) (ordinal : ℕ) (o : Option (List Record)) → is_wire q.name ≡ true
-    → decided_from q.type (map lower q.name) q.client q.moment ordinal o ≡ response_decoded o q ordinal
-unfolding decided_from response_decoded
-decided q ordinal none w = refl
-decided q ordinal (some rs) w = sym (replied q ordinal rs w)
-
 module _ (client : List ℕ) (here : Lo) (from until first last : ℕ) where
   located : (o : Option (List Record)) → judged_lo (Judged.Whole here from until first last) ≡ located_in client o → is_some o ≡ true
   unfolding judged_lo located_in is_some
@@ -80,22 +68,21 @@ module _ (stream client : List ℕ) (j : Judged) (e : judged_lo j ≡ located_in
   pub judged_whole : (here : Lo) (from until first last : ℕ) → j ≡ Judged.Whole here from until first last → is_some (decode stream) ≡ true
   judged_whole here from until first last w = located client here from until first last (decode stream) (rw w at e)
 
-  pub no_records : (type : ℕ) (name : List ℕ) (moment ordinal : ℕ) (r : Response) → j ≡ Judged.Broken → r ≡ refusal AskFault.Records
-      → r ≡ decided_from type name client moment ordinal (decode stream)
-  no_records type name moment ordinal r w f = f ∙ go (decode stream) (rw w at e)
+  not_whole : (q : Question) (ordinal : ℕ) → j ≡ Judged.Broken → refusal AskFault.Records ≡ response_decoded (decode stream) q ordinal
+  not_whole q ordinal w = go (decode stream) (rw w at e)
     where
-      go : (o : Option (List Record)) → judged_lo Judged.Broken ≡ located_in client o → refusal AskFault.Records ≡ decided_from type name client moment ordinal o
-      go none e = unfold decided_from in refl
+      go : (o : Option (List Record)) → judged_lo Judged.Broken ≡ located_in client o → refusal AskFault.Records ≡ response_decoded o q ordinal
+      go none e = unfold response_decoded in refl
       go (some rs) e = unfold judged_lo located_in in (let z : ◌≡◌ {A = ℕ} 0 1 = cc in absurd (omega arith))
 
-  pub is_answered : (type : ℕ) (name : List ℕ) (moment ordinal : ℕ) (here : Lo) (from until first last : ℕ) (r : Response) → j ≡ Judged.Whole here from until first last
-      → r ≡ answered_from type name (lo_bytes here) moment ordinal (value_or [] (decode stream)) → r ≡ decided_from type name client moment ordinal (decode stream)
-  is_answered type name moment ordinal here from until first last r w a = go (decode stream) (rw w at e) a
+  whole_reply : (q : Question) (ordinal : ℕ) (here : Lo) (from until first last : ℕ) (r : Response) → is_wire q.name ≡ true → q.client ≡ client → j ≡ Judged.Whole here from until first last
+      → r ≡ answered_from q.type (map lower q.name) (lo_bytes here) q.moment ordinal (value_or [] (decode stream)) → r ≡ response_decoded (decode stream) q ordinal
+  whole_reply q ordinal here from until first last r n k w a = go (decode stream) (rw w at e) a
     where
       go : (o : Option (List Record)) → judged_lo (Judged.Whole here from until first last) ≡ located_in client o
-          → r ≡ answered_from type name (lo_bytes here) moment ordinal (value_or [] o) → r ≡ decided_from type name client moment ordinal o
+          → r ≡ answered_from q.type (map lower q.name) (lo_bytes here) q.moment ordinal (value_or [] o) → r ≡ response_decoded o q ordinal
       go none e a = unfold judged_lo located_in in (let z : ◌≡◌ {A = ℕ} 0 1 = cc in absurd (omega arith))
-      go (some rs) e a = unfold decided_from value_or in (a ∙ rw (located_here client here from until first last (some rs) e))
+      go (some rs) e a = unfold response_decoded in (a ∙ rw (located_here client here from until first last (some rs) e, ← k) (unfold value_or in sym (replied q ordinal rs n)))
 
 module _ (name stream : List ℕ) (j : Judged) (here : Lo) (from until first last : ℕ) (s : Covered name stream j) (w : j ≡ Judged.Whole here from until first last) where
   judged_covers : Covers Role.Level name stream from until × Covers Role.Control name stream first last × Covers Role.Zone name stream first last
@@ -133,9 +120,17 @@ module _ (stream name client : List ℕ) (type moment ordinal : ℕ) (t : Bool) 
       unfolding ask_response moment_end pick
       no_client r y e = rw (← n, named, lt-leb 9223372036854775808 moment (omega arith), ← c, y) e
 
-      pub is_decided : (r : Response) → not u ≡ false → r ≡ decided_from type (map lower name) client moment ordinal (decode stream) → r ≡ ask_response stream question ordinal
-      unfolding ask_response moment_end pick
-      is_decided r addressed d = rw (← n, named, lt-leb 9223372036854775808 moment (omega arith), ← c, addressed) (d ∙ decided question ordinal (decode stream) is_name)
+      module _ (addressed : not u ≡ false) (j : Judged) (e : judged_lo j ≡ located_in client (decode stream)) where
+        decided : ask_response stream question ordinal ≡ response_decoded (decode stream) question ordinal
+        unfolding ask_response moment_end pick
+        decided = rw (← n, named, lt-leb 9223372036854775808 moment (omega arith), ← c, addressed)
+
+        pub no_records : (r : Response) → j ≡ Judged.Broken → r ≡ refusal AskFault.Records → r ≡ ask_response stream question ordinal
+        no_records r w f = f ∙ not_whole stream client j e question ordinal w ∙ sym decided
+
+        pub is_answered : (here : Lo) (from until first last : ℕ) (r : Response) → j ≡ Judged.Whole here from until first last
+            → r ≡ answered_from type (map lower name) (lo_bytes here) moment ordinal (value_or [] (decode stream)) → r ≡ ask_response stream question ordinal
+        is_answered here from until first last r w a = whole_reply stream client j e question ordinal here from until first last r is_name refl w a ∙ sym decided
 
 -- a refusal's response
 pub refuses : (fault : AskFault) → record { outcome = Outcome.Refused; reply = Reply.Refused fault } ≡ refusal fault
@@ -144,37 +139,4 @@ refuses fault = refl
 
 pub ruleset refused_laws = (rules, refuses)
 
-pub ruleset decide_laws = (rules, judged_whole, level_covers, control_covers, zone_covers, no_records, is_answered)
-
-pub ruleset ask_laws = (rules, no_name, no_moment, is_name, no_client, is_decided)
-
--- ---- the name with its letters lowered
-
-module _ (name : List ℕ) (w : is_wire name ≡ true) where
-  short : length name ≤ 255
-  short = short_of name (rw w tt)
-
-  pub name_fits : (n : ℕ) → n ≡ 255 → length name ≤ n
-  name_fits n e = omega (arith, short)
-
-  module _ (d room : List ℕ) (n : ℕ) (p : IsPut (map lower name) d room n) where
-    pub lowered_is : take n room ≡ map lower name
-    lowered_is = front (map lower name) d room n p
-
-    pub lowered_within : n ≤ length room
-    lowered_within = within (map lower name) d room n p
-
-    pub lowered_long : n ≡ length (take n room)
-    lowered_long = sym (length-take-le n room lowered_within)
-
-    pub lowered_short : length (take n room) ≤ 255
-    lowered_short = rw lowered_is (rw length-map short)
-
-    pub lowered_wire : is_wire (take n room) ≡ true
-    lowered_wire = rw lowered_is (is_true (is_wire (map lower name)) (wire_lower name (rw w tt)))
-
-    pub lowered_decides : (r : Response) (type : ℕ) (client : List ℕ) (moment ordinal : ℕ) (o : Option (List Record))
-        → r ≡ decided_from type (take n room) client moment ordinal o → r ≡ decided_from type (map lower name) client moment ordinal o
-    lowered_decides r type client moment ordinal o e = rw lowered_is at e
-
-pub ruleset respond_laws = (rules, name_fits, lowered_within, lowered_long, lowered_short, lowered_wire, lowered_decides)
+pub ruleset ask_laws = (rules, judged_whole, level_covers, control_covers, zone_covers, no_name, no_moment, is_name, no_client, no_records, is_answered)

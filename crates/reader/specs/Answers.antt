@@ -1,14 +1,10 @@
 -- The answer of whole records to a client who is here, by numbers, as the passes find it.
 use Rattle.std.specs.Prelude.{ℕ, Bool, true, false, List, leb, eqb}
-use Rattle.std.proofs.Math.Option.{Option, none, some}
-use Rattle.rules.specs.declared.replies.AskFault.{AskFault}
 use Rattle.rules.specs.declared.replies.Outcome.{Outcome}
 use Rattle.rules.specs.declared.replies.Reply.{Reply}
 use Rattle.rules.specs.declared.replies.Response.{Response}
 use Rattle.rules.specs.Lists.{pick}
 use Rattle.rules.specs.Records.{Record}
-use Rattle.rules.specs.Questions.{location_of}
-use Rattle.rules.specs.Reading.{refusal}
 use Rattle.ranks.specs.Ranks.{largest, seen_rank}
 use Rattle.ranks.specs.declared.Role.{Role}
 use Rattle.picks.specs.Picks.{picked_from}
@@ -43,8 +39,3 @@ unfoldable pub answered_from : ℕ → List ℕ → List ℕ → ℕ → ℕ →
 answered_from type name here moment ordinal rs =
     let control = largest (seen_rank Role.Control name here moment) rs in
     pick (eqb control 0) (said Outcome.NotOurs Reply.NoMore) (controlled_from type name here moment control ordinal rs)
-
--- of any bytes, once the name and the client are good and the name's letters lowered
-unfoldable pub decided_from : ℕ → List ℕ → List ℕ → ℕ → ℕ → Option (List Record) → Response
-decided_from type name client moment ordinal none = refusal AskFault.Records
-decided_from type name client moment ordinal (some rs) = answered_from type name (location_of client rs) moment ordinal rs

@@ -1,10 +1,9 @@
 // The answer of whole records: the control name, the zone or the referral, the level, then the type and the ordinal.
-ghost use Rattle.std.specs.Prelude.{◌≡◌, true, [], ◌<◌};
-ghost use Rattle.rules.specs.Lists.{is_some, value_or};
+ghost use Rattle.std.specs.Prelude.{◌≡◌, true, [], map, ◌<◌, ◌≤◌};
+ghost use Rattle.rules.specs.Lists.{lower, is_some, value_or};
 ghost use Rattle.rules.specs.Names.{is_wire};
 ghost use Rattle.rules.specs.Records.{lo_bytes};
 ghost use Rattle.rules.specs.Reading.{decode};
-ghost use Rattle.related.specs.Related.{Lengths};
 ghost use Rattle.ranks.specs.Ranks.{largest, seen_rank};
 ghost use Rattle.picks.specs.Picks.{picked_from};
 ghost use Rattle.ranks.specs.declared.Role.{Role};
@@ -20,7 +19,6 @@ use rules::replies::{Outcome, Reply, Response};
 // The largest rank in a stream of whole records, of which nothing outside the part between the places given has one.
 fn largest_in(
     stream: &[u8],
-    lengths: &[bool],
     name: &[u8],
     role: Role,
     here: Lo,
@@ -29,18 +27,16 @@ fn largest_in(
     until: usize,
 ) -> usize
     requires name_value { is_wire name.now ≡ true }
-    requires lengths { Lengths lengths.now name.now }
     requires stream_value { is_some (decode stream.now) ≡ true }
-    requires covers { Covers role name.now stream.now from until }
-    ensures { result ≡ largest (seen_rank role name.now (lo_bytes here) moment.0) (value_or [] (decode stream.now)) }
+    requires covers { Covers role (map lower name.now) stream.now from until }
+    ensures { result ≡ largest (seen_rank role (map lower name.now) (lo_bytes here) moment.0) (value_or [] (decode stream.now)) }
 {
-    best_rank(&stream[..until], lengths, name, role, here, moment, from)
+    best_rank(&stream[..until], name, role, here, moment, from)
 }
 
 // The record of this ordinal among those of a rank and a type.
 fn picked_in(
     stream: &[u8],
-    lengths: &[bool],
     name: &[u8],
     qtype: u16,
     role: Role,
@@ -52,14 +48,12 @@ fn picked_in(
     until: usize,
 ) -> Reply
     requires best_nonzero { 0 < best }
-    requires lengths { Lengths lengths.now name.now }
     requires stream_value { is_some (decode stream.now) ≡ true }
-    requires covers { Covers role name.now stream.now from until }
-    ensures { result ≡ picked_from qtype role name.now (lo_bytes here) moment.0 best 0 ordinal (value_or [] (decode stream.now)) }
+    requires covers { Covers role (map lower name.now) stream.now from until }
+    ensures { result ≡ picked_from qtype role (map lower name.now) (lo_bytes here) moment.0 best 0 ordinal (value_or [] (decode stream.now)) }
 {
     pick_record(
         &stream[..until],
-        lengths,
         name,
         qtype,
         role,
@@ -95,7 +89,6 @@ fn say(outcome: Outcome, reply: Reply) -> Response
 // In our zone, with a level: the type, then the ordinal.
 fn in_level(
     stream: &[u8],
-    lengths: &[bool],
     name: &[u8],
     qtype: u16,
     here: Lo,
@@ -106,14 +99,12 @@ fn in_level(
     until: usize,
 ) -> Response
     requires best_nonzero { 0 < best }
-    requires lengths { Lengths lengths.now name.now }
     requires stream_value { is_some (decode stream.now) ≡ true }
-    requires covers { Covers Role.Level name.now stream.now from until }
-    ensures { result ≡ level_from qtype name.now (lo_bytes here) moment.0 best ordinal (value_or [] (decode stream.now)) }
+    requires covers { Covers Role.Level (map lower name.now) stream.now from until }
+    ensures { result ≡ level_from qtype (map lower name.now) (lo_bytes here) moment.0 best ordinal (value_or [] (decode stream.now)) }
 {
     let first = picked_in(
         stream,
-        lengths,
         name,
         qtype,
         Role::Level,
@@ -132,7 +123,6 @@ fn in_level(
     }
     let reply = picked_in(
         stream,
-        lengths,
         name,
         qtype,
         Role::Level,
@@ -149,7 +139,6 @@ fn in_level(
 // In our zone: the level, which is no higher than the control name, whose length is known.
 fn in_zone(
     stream: &[u8],
-    lengths: &[bool],
     name: &[u8],
     qtype: u16,
     here: Lo,
@@ -161,33 +150,22 @@ fn in_zone(
 ) -> Response
     requires control_nonzero { 0 < control }
     requires name_value { is_wire name.now ≡ true }
-    requires lengths { Lengths lengths.now name.now }
     requires stream_value { is_some (decode stream.now) ≡ true }
-    requires covers { Covers Role.Level name.now stream.now from until }
-    ensures { result ≡ zone_from qtype name.now (lo_bytes here) moment.0 control ordinal (value_or [] (decode stream.now)) }
+    requires covers { Covers Role.Level (map lower name.now) stream.now from until }
+    ensures { result ≡ zone_from qtype (map lower name.now) (lo_bytes here) moment.0 control ordinal (value_or [] (decode stream.now)) }
 {
-    let best = largest_in(
-        stream,
-        lengths,
-        name,
-        Role::Level,
-        here,
-        moment,
-        from,
-        until,
-    );
+    let best = largest_in(stream, name, Role::Level, here, moment, from, until);
     if best < control {
         return say(Outcome::NoSuchName, Reply::NoMore);
     }
     in_level(
-        stream, lengths, name, qtype, here, moment, best, ordinal, from, until,
+        stream, name, qtype, here, moment, best, ordinal, from, until,
     )
 }
 
 // By the control name, whose length is known: our zone with an SOA record there, else a referral to its name servers.
 fn controlled(
     stream: &[u8],
-    lengths: &[bool],
     name: &[u8],
     qtype: u16,
     here: Lo,
@@ -201,16 +179,14 @@ fn controlled(
 ) -> Response
     requires control_nonzero { 0 < control }
     requires name_value { is_wire name.now ≡ true }
-    requires lengths { Lengths lengths.now name.now }
     requires stream_value { is_some (decode stream.now) ≡ true }
-    requires covers { Covers Role.Level name.now stream.now from until }
-    requires covers_2 { Covers Role.Control name.now stream.now first last }
-    requires covers_3 { Covers Role.Zone name.now stream.now first last }
-    ensures { result ≡ controlled_from qtype name.now (lo_bytes here) moment.0 control ordinal (value_or [] (decode stream.now)) }
+    requires covers { Covers Role.Level (map lower name.now) stream.now from until }
+    requires covers_2 { Covers Role.Control (map lower name.now) stream.now first last }
+    requires covers_3 { Covers Role.Zone (map lower name.now) stream.now first last }
+    ensures { result ≡ controlled_from qtype (map lower name.now) (lo_bytes here) moment.0 control ordinal (value_or [] (decode stream.now)) }
 {
     let soa = picked_in(
         stream,
-        lengths,
         name,
         255,
         Role::Zone,
@@ -224,7 +200,6 @@ fn controlled(
     if !is_found(soa) {
         let reply = picked_in(
             stream,
-            lengths,
             name,
             255,
             Role::Control,
@@ -238,7 +213,7 @@ fn controlled(
         return say(Outcome::Referral, reply);
     }
     in_zone(
-        stream, lengths, name, qtype, here, moment, control, ordinal, from, until,
+        stream, name, qtype, here, moment, control, ordinal, from, until,
     )
 }
 
@@ -246,7 +221,6 @@ fn controlled(
 // answer, and nothing outside the second can make a control name.
 pub fn answer(
     stream: &[u8],
-    lengths: &[bool],
     name: &[u8],
     qtype: u16,
     here: Lo,
@@ -258,27 +232,17 @@ pub fn answer(
     last: usize,
 ) -> Response
     requires name_value { is_wire name.now ≡ true }
-    requires lengths { Lengths lengths.now name.now }
     requires stream_value { is_some (decode stream.now) ≡ true }
-    requires covers { Covers Role.Level name.now stream.now from until }
-    requires covers_2 { Covers Role.Control name.now stream.now first last }
-    requires covers_3 { Covers Role.Zone name.now stream.now first last }
-    ensures { result ≡ answered_from qtype name.now (lo_bytes here) moment.0 ordinal (value_or [] (decode stream.now)) }
+    requires covers { Covers Role.Level (map lower name.now) stream.now from until }
+    requires covers_2 { Covers Role.Control (map lower name.now) stream.now first last }
+    requires covers_3 { Covers Role.Zone (map lower name.now) stream.now first last }
+    ensures { result ≡ answered_from qtype (map lower name.now) (lo_bytes here) moment.0 ordinal (value_or [] (decode stream.now)) }
 {
-    let control = largest_in(
-        stream,
-        lengths,
-        name,
-        Role::Control,
-        here,
-        moment,
-        first,
-        last,
-    );
+    let control = largest_in(stream, name, Role::Control, here, moment, first, last);
     if control == 0 {
         return say(Outcome::NotOurs, Reply::NoMore);
     }
     controlled(
-        stream, lengths, name, qtype, here, moment, control, ordinal, from, until, first, last,
+        stream, name, qtype, here, moment, control, ordinal, from, until, first, last,
     )
 }

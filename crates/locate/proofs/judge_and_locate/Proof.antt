@@ -1,14 +1,16 @@
 use Prim.Native.Nat.{◌-◌}
+use mathlib.Core.List.{map}
 use lib.ListN.{length}
+use Rattle.rules.specs.Lists.{lower}
 use Rattle.locate.proofs.Locating.{Going, locate_laws}
 use Rattle.locate.proofs.judge_and_locate.Statement.{statement}
 use Rattle.locate.proofs.judge_and_locate.Tie as tie
 
 abbrev invariant-loop : tie.invariant-loop
-invariant-loop stream client lengths name n located₀ level₀ control₀ at₀ located level control at = Going client name stream located level control at
+invariant-loop stream client name n located₀ level₀ control₀ at₀ located level control at = Going client (map lower name) stream located level control at
 
 abbrev decreases-loop : tie.decreases-loop
-decreases-loop stream client lengths name n located₀ level₀ control₀ at₀ located level control at = length stream - at
+decreases-loop stream client name n located₀ level₀ control₀ at₀ located level control at = length stream - at
 
 loop-holds : tie.Need-loop-init invariant-loop decreases-loop
 loop-holds c = search locate_laws

@@ -1,15 +1,17 @@
 use Prim.Native.Nat.{◌-◌}
+use mathlib.Core.List.{map}
 use lib.ListN.{length}
+use Rattle.rules.specs.Lists.{lower}
 use Rattle.locate.specs.Reaches.{Plain}
 use Rattle.locate.proofs.Stopping.{stop_laws}
 use Rattle.locate.proofs.next_stop.Statement.{statement}
 use Rattle.locate.proofs.next_stop.Tie as tie
 
 abbrev invariant-loop : tie.invariant-loop
-invariant-loop stream lengths name from n at₀ at = Plain name stream from at
+invariant-loop stream name from n at₀ at = Plain (map lower name) stream from at
 
 abbrev decreases-loop : tie.decreases-loop
-decreases-loop stream lengths name from n at₀ at = length stream - at
+decreases-loop stream name from n at₀ at = length stream - at
 
 loop-holds : tie.Need-loop-init invariant-loop decreases-loop
 loop-holds c = search stop_laws

@@ -14,8 +14,8 @@ enum-known-found c = search step_laws
 enum-known-wild : tie.Need-enum-known-wild
 enum-known-wild c = search step_laws
 
-is-related-requires : tie.Need-is-related-requires
-is-related-requires c κs = search step_laws
+is-end-requires : tie.Need-is-end-requires
+is-end-requires c κs = search step_laws
 
 returns : tie.Need-returns
 returns c = search step_laws
@@ -43,7 +43,7 @@ step-in-spec =
     enum_told
     enum-known-found
     enum-known-wild
-    is-related-requires
+    is-end-requires
     returns
     type-in-requires
     related-step-requires

@@ -1,44 +1,43 @@
 use Prim.Native.Nat.{◌-◌, ◌≤◌}
 use mathlib.Core.Path.{◌≡◌, refl}
-use mathlib.Core.List.{[]}
+use mathlib.Core.List.{[], map}
 use lib.ListN.{length, drop}
 use Rattle.rules.specs.Records.{lo_bytes}
 use Rattle.rules.specs.Reading.{decode}
 use mathlib.Core.Bool.{true}
-use Rattle.rules.specs.Lists.{is_some, value_or}
+use Rattle.rules.specs.Lists.{lower, is_some, value_or}
 use Rattle.picks.specs.Picks.{picked_from}
-use Rattle.level.proofs.Bests.{is_there}
 use Rattle.picks.proofs.Picking.{pick_laws}
 use Rattle.picks.proofs.pick_record.Statement.{statement}
 use Rattle.picks.proofs.pick_record.Tie as tie
 
 abbrev invariant-loop : tie.invariant-loop
-invariant-loop stream lengths name qtype role here moment best ordinal from n left₀ at₀ left at = (at ≤ length stream) × (is_some (decode (drop at stream)) ≡ true)
-    × (picked_from qtype role name (lo_bytes here) moment.0 best at left (value_or [] (decode (drop at stream)))
-    ≡ picked_from qtype role name (lo_bytes here) moment.0 best from ordinal (value_or [] (decode (drop from stream))))
+invariant-loop stream name qtype role here moment best ordinal from n left₀ at₀ left at = (at ≤ length stream) × (is_some (decode (drop at stream)) ≡ true)
+    × (picked_from qtype role (map lower name) (lo_bytes here) moment.0 best at left (value_or [] (decode (drop at stream)))
+    ≡ picked_from qtype role (map lower name) (lo_bytes here) moment.0 best from ordinal (value_or [] (decode (drop from stream))))
 
 abbrev decreases-loop : tie.decreases-loop
-decreases-loop stream lengths name qtype role here moment best ordinal from n left₀ at₀ left at = length stream - at
+decreases-loop stream name qtype role here moment best ordinal from n left₀ at₀ left at = length stream - at
 
 loop-holds : tie.Need-loop-init invariant-loop decreases-loop
 loop-holds c =
-    let s = c.before.before.before in
-    (s.requires.1.1.0, s.requires.1.1.1, refl)
+    let s = c.before.before in
+    (s.requires.1.0, s.requires.1.1, refl)
 
 span-at-requires : tie.Need-span-at-requires invariant-loop decreases-loop
 span-at-requires c κs = search pick_laws
 
-sub-is-related : tie.Need-overflow-sub-is-related invariant-loop decreases-loop
-sub-is-related c = search pick_laws
+sub-is-end : tie.Need-overflow-sub-is-end invariant-loop decreases-loop
+sub-is-end c = search pick_laws
 
-part-is-related-start : tie.Need-slice-bounds-is-related-start invariant-loop decreases-loop
-part-is-related-start c = search pick_laws
+part-is-end-start : tie.Need-slice-bounds-is-end-start invariant-loop decreases-loop
+part-is-end-start c = search pick_laws
 
-part-is-related-end : tie.Need-slice-bounds-is-related-end invariant-loop decreases-loop
-part-is-related-end c = search pick_laws
+part-is-end-end : tie.Need-slice-bounds-is-end-end invariant-loop decreases-loop
+part-is-end-end c = search pick_laws
 
-is-related-requires : tie.Need-is-related-requires invariant-loop decreases-loop
-is-related-requires c κs = search pick_laws
+is-end-requires : tie.Need-is-end-requires invariant-loop decreases-loop
+is-end-requires c κs = search pick_laws
 
 loop-less : tie.Need-loop-smaller invariant-loop decreases-loop
 loop-less c = search pick_laws
@@ -65,9 +64,7 @@ part-is-wanted-end-2 : tie.Need-slice-bounds-is-wanted-end-2 invariant-loop decr
 part-is-wanted-end-2 c = search pick_laws
 
 is-wanted-requires : tie.Need-is-wanted-requires invariant-loop decreases-loop
-is-wanted-requires c κs =
-    let e = c.before.before in
-    (is_there _ _ _ e.before.is-related.ensures e.if1.false, search pick_laws)
+is-wanted-requires c κs = search pick_laws
 
 sub-reply-in : tie.Need-overflow-sub-reply-in invariant-loop decreases-loop
 sub-reply-in c = search pick_laws
@@ -119,10 +116,10 @@ pick-record-spec =
     decreases-loop
     loop-holds
     span-at-requires
-    sub-is-related
-    part-is-related-start
-    part-is-related-end
-    is-related-requires
+    sub-is-end
+    part-is-end-start
+    part-is-end-end
+    is-end-requires
     loop-less
     loop-again
     sub-is-wanted

@@ -1,5 +1,5 @@
 use borrow.Author.Rules.{rules}
-use Rattle.rules.proofs.Lists.{other_length_lem}
+use Rattle.wire.proofs.Compare.{other_length}
 use Rattle.judged_names.proofs.Name.{one_byte}
 use Rattle.judged_names.proofs.judged.is_root.Statement.{statement}
 use Rattle.judged_names.proofs.judged.is_root.Tie as tie
@@ -11,7 +11,7 @@ returns : tie.Need-returns
 returns c = search (one_byte, rules)
 
 returns-2 : tie.Need-returns-2
-returns-2 c = search (other_length_lem, rules)
+returns-2 c = search (other_length, rules)
 
 pub is-root-spec : {M : Type 1} → statement M
 is-root-spec = tie.close (tie.spec shared-slice-read-result returns returns-2)

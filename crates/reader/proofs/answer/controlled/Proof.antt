@@ -9,7 +9,7 @@ is-found-requires : tie.Need-is-found-requires
 is-found-requires c κs = search control_laws
 
 picked-in-requires-2 : tie.Need-picked-in-requires-2
-picked-in-requires-2 c κs = (search control_laws, (search control_laws, (search control_laws, search control_laws)))
+picked-in-requires-2 c κs = search control_laws
 
 say-requires : tie.Need-say-requires
 say-requires c κs = search control_laws
@@ -18,7 +18,7 @@ returns : tie.Need-returns
 returns c = search control_laws
 
 in-zone-requires : tie.Need-in-zone-requires
-in-zone-requires c κs = (search control_laws, (search control_laws, (search control_laws, (search control_laws, search control_laws))))
+in-zone-requires c κs = search control_laws
 
 returns-2 : tie.Need-returns-2
 returns-2 c = search control_laws

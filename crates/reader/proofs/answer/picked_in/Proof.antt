@@ -6,7 +6,7 @@ slice-aggregate-pick-record : tie.Need-slice-aggregate-pick-record
 slice-aggregate-pick-record c = search part_laws
 
 pick-record-requires : tie.Need-pick-record-requires
-pick-record-requires c κs = (search part_laws, (search part_laws, (search part_laws, search part_laws)))
+pick-record-requires c κs = search part_laws
 
 returns : tie.Need-returns
 returns c = search part_laws
