@@ -8,7 +8,7 @@ use octets::octets::octets;
 use pieces::pieces::has_byte;
 
 // The first len bytes: 4, 16, or none where the text is no address.
-#[derive(Drop)]
+#[derive(Clone, Copy)]
 pub struct AddressRead {
     pub bytes: [u8; 16],
     pub len: usize,

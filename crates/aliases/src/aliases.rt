@@ -21,7 +21,7 @@ use splits::splits::Span;
 use values::values::shared_of;
 
 // What such a line says.
-#[derive(Drop)]
+#[derive(Clone, Copy)]
 pub struct AddressLine {
     pub shared: Shared,
     pub owner: Name,

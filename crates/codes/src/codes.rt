@@ -6,7 +6,7 @@ ghost use Rattle.codes.specs.Views.{lo_read};
 use letters::ascii::is_letter;
 use rules::quantities::Lo;
 
-#[derive(Drop)]
+#[derive(Clone, Copy)]
 pub enum LoRead {
     Good(Lo),
     Bad,

@@ -10,7 +10,7 @@ use rules::faults::{Answer, Fault};
 use writer::line::put_line;
 
 // The first fault of a line, with its field, and how many bytes its records take; a bad line takes none.
-#[derive(Drop)]
+#[derive(Clone, Copy)]
 pub struct LineSize {
     pub fault: Fault,
     pub field: usize,

@@ -7,14 +7,14 @@ ghost use Rattle.escapes.specs.Views.{escape_read, text_judged};
 ghost use Rattle.escapes.specs.TextSteps.{escape_of, escape_in, escapes_at, byte_at, IsStep};
 
 // The count of bytes that a text stands for.
-#[derive(Drop)]
+#[derive(Clone, Copy)]
 pub enum TextJudged {
     Good(usize),
     Bad,
 }
 
 // The byte that three octal digits stand for.
-#[derive(Drop)]
+#[derive(Clone, Copy)]
 pub enum EscapeRead {
     Byte(u8),
     Bad,

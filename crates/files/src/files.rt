@@ -4,7 +4,7 @@ ghost use Rattle.files.specs.Fronts.{IsFront};
 use libc::STDERR_FILENO;
 
 // The first len bytes of a buffer that was lent: the whole argument or file, or none of it.
-#[derive(Drop)]
+#[derive(Clone, Copy)]
 pub struct Front {
     pub whole: bool,
     pub len: usize,

@@ -30,7 +30,7 @@ fn group(text: &[u8]) -> NumberRead
     NumberRead::Good(value)
 }
 
-#[derive(Drop)]
+#[derive(Clone, Copy)]
 pub struct GroupsRead {
     pub groups: [u16; 8],
     pub good: bool,

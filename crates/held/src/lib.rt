@@ -8,7 +8,7 @@ ghost use Rattle.held.specs.Nth.{found_from};
 
 use places::{Found, record_at};
 
-#[derive(Drop)]
+#[derive(Clone, Copy)]
 pub struct Reader<'a> {
     pub bytes: &'a [u8],
     pub at: usize,

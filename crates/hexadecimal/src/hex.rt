@@ -4,7 +4,7 @@ ghost use Rattle.io.specs.Digits.{hex_digit_ascii};
 ghost use Rattle.hexadecimal.specs.Hex.{IsHexText};
 
 // The first len digits.
-#[derive(Drop)]
+#[derive(Clone, Copy)]
 pub struct HexText {
     pub digits: [u8; 512],
     pub len: usize,

@@ -21,7 +21,7 @@ use splits::splits::{Span, field};
 use values::values::shared_of;
 
 // What the lines with a field x have in common.
-#[derive(Drop)]
+#[derive(Clone, Copy)]
 pub struct HostLine {
     pub shared: Shared,
     pub owner: Name,

@@ -16,7 +16,7 @@ use wire::get::{get_be, wide};
 use wire::stars::is_wild;
 
 // A record that was read. Of a resource record the record data begin at `fixed` in its data; a wildcard's key lacks the label `*`.
-#[derive(Drop)]
+#[derive(Clone, Copy)]
 pub enum Seen {
     Broken,
     Location(Lo),
@@ -29,14 +29,14 @@ pub enum Seen {
 }
 
 // What the flag says of lo, and where ttl begins in the data; or that flag or lo are out of range.
-#[derive(Drop)]
+#[derive(Clone, Copy)]
 enum Flag {
     Whole(Lo, usize),
     Broken,
 }
 
 // Ttl, time and lo, or that they are out of range.
-#[derive(Drop)]
+#[derive(Clone, Copy)]
 enum Fields {
     Whole(Shared),
     Broken,

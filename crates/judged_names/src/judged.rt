@@ -8,14 +8,14 @@ ghost use Rattle.judged_names.specs.NameCounts.{byte_kind, judged_size};
 use rules::faults::NameFault;
 
 // A name with its length on the wire, or its first fault and that fault's place in the text, from 0.
-#[derive(Drop)]
+#[derive(Clone, Copy)]
 pub enum NameJudged {
     Named(usize),
     Misnamed(NameFault, usize),
 }
 
 // What a byte of a name's text is.
-#[derive(Drop)]
+#[derive(Clone, Copy)]
 pub enum ByteKind {
     Dot,
     Plain,

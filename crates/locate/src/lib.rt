@@ -21,14 +21,14 @@ use stream::span_at;
 use wire::get::wide;
 
 // The location of the longest prefix so far, and how long a better prefix is at least.
-#[derive(Drop)]
+#[derive(Clone, Copy)]
 struct Located {
     lo: Lo,
     least: usize,
 }
 
 // What a record is to the pass: malformed, a location, one that may answer, one that may make a control name, both, or any other.
-#[derive(Drop)]
+#[derive(Clone, Copy)]
 enum Step {
     Broken,
     Location(Lo),
@@ -40,14 +40,14 @@ enum Step {
 
 // What stands behind records that are nothing to the pass: the end; or a record that is something to it, where it begins, where its key and its
 // data begin, and where it ends.
-#[derive(Drop)]
+#[derive(Clone, Copy)]
 enum Stop {
     Ended,
     At(Step, usize, usize, usize, usize),
 }
 
 // A part of a stream, from one place up to another; its end is 0 where nothing was found.
-#[derive(Drop)]
+#[derive(Clone, Copy)]
 struct Part {
     from: usize,
     until: usize,
@@ -55,7 +55,7 @@ struct Part {
 
 // Whether a stream is whole records, and then the client's location, the part outside which no record can answer, and the part outside which none can
 // make a control name.
-#[derive(Drop)]
+#[derive(Clone, Copy)]
 pub enum Judged {
     Whole(Lo, usize, usize, usize, usize),
     Broken,

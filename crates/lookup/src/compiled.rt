@@ -9,7 +9,7 @@ use refusals::faults::number;
 use rules::faults::Answer;
 
 // What compiling answered, and the records that it left at the front of the buffer.
-#[derive(Drop)]
+#[derive(Clone, Copy)]
 pub struct Compiled {
     pub answer: Answer,
     pub front: Front,

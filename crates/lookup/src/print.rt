@@ -11,7 +11,7 @@ use rules::quantities::Ttl;
 use rules::replies::{Outcome, Reply, Response};
 
 // What came of printing a record: more may follow, or none can, or standard output didn't take all.
-#[derive(Drop)]
+#[derive(Clone, Copy)]
 enum Printed {
     More,
     Last,

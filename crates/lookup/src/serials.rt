@@ -6,7 +6,7 @@ ghost use Rattle.lookup.specs.Serials.{serial_read};
 use libc::STDERR_FILENO;
 use numbers::numbers::{NumberRead, number};
 
-#[derive(Drop)]
+#[derive(Clone, Copy)]
 pub enum SerialRead {
     Good(u32),
     Bad,

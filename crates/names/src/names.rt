@@ -6,7 +6,7 @@ ghost use Rattle.names.specs.Views.{is_named};
 ghost use Rattle.names.specs.Held.{IsName};
 
 // The first len bytes are a name on the wire.
-#[derive(Drop)]
+#[derive(Clone, Copy)]
 pub struct Name {
     pub bytes: [u8; 255],
     pub len: usize,

@@ -5,7 +5,7 @@ ghost use Rattle.numbers.specs.Views.{number_read};
 
 use wire::get::wide;
 
-#[derive(Drop)]
+#[derive(Clone, Copy)]
 pub enum NumberRead {
     Good(u64),
     Bad,

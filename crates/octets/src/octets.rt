@@ -29,7 +29,7 @@ fn octet(text: &[u8]) -> NumberRead
 }
 
 // The first count bytes, where they are good.
-#[derive(Drop)]
+#[derive(Clone, Copy)]
 pub struct OctetsRead {
     pub bytes: [u8; 4],
     pub count: usize,

@@ -11,7 +11,7 @@ use judge::{Seen, record_in};
 use stream::span_at;
 
 // Where a record's key begins, where its data begin and where the next record begins; or that no whole record is there, and then all three are the place itself.
-#[derive(Drop)]
+#[derive(Clone, Copy)]
 pub struct Found {
     pub whole: bool,
     pub key: usize,

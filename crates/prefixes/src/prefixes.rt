@@ -5,7 +5,7 @@ ghost use Rattle.prefixes.specs.Prefixes.{IsPrefix};
 use octets::octets::octets;
 
 // The first len bytes, where they are good.
-#[derive(Drop)]
+#[derive(Clone, Copy)]
 pub struct PrefixRead {
     pub bytes: [u8; 4],
     pub len: usize,

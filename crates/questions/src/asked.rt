@@ -6,7 +6,7 @@ use judged_names::judged::{NameJudged, judge_name};
 use names::names::{Name, read_name};
 use numbers::numbers::{NumberRead, number};
 
-#[derive(Drop)]
+#[derive(Clone, Copy)]
 pub struct NameRead {
     pub good: bool,
     pub name: Name,
@@ -31,7 +31,7 @@ pub fn read_question_name(text: &[u8]) -> NameRead
     }
 }
 
-#[derive(Drop)]
+#[derive(Clone, Copy)]
 pub struct AskedRead {
     pub good: bool,
     pub qtype: u16,

@@ -6,7 +6,7 @@ use crate::moments::{MomentRead, read_moment};
 use addresses::addresses::{AddressRead, address};
 use rules::quantities::Moment;
 
-#[derive(Drop)]
+#[derive(Clone, Copy)]
 pub struct AskerRead {
     pub good: bool,
     pub moment: Moment,

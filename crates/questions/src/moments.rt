@@ -6,7 +6,7 @@ ghost use Rattle.questions.specs.Views.{moment_read};
 use digits::hex::hex_digit;
 use rules::quantities::Moment;
 
-#[derive(Drop)]
+#[derive(Clone, Copy)]
 pub enum MomentRead {
     Good(Moment),
     Bad,

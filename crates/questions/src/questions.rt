@@ -16,7 +16,7 @@ use reader::ask;
 use rules::quantities::Moment;
 use rules::replies::Response;
 
-#[derive(Drop)]
+#[derive(Clone, Copy)]
 pub struct QuestionRead {
     pub good: bool,
     pub moment: Moment,
@@ -119,7 +119,7 @@ fn ask_held(records: &[u8], question: QuestionRead, ordinal: u64) -> Response
 }
 
 // What a line of text is answered: it may be no question.
-#[derive(Drop)]
+#[derive(Clone, Copy)]
 pub enum LineReply {
     Answered(Response),
     NoQuestion,

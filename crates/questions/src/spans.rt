@@ -5,7 +5,7 @@ ghost use Rattle.questions.specs.Views.{IsSpans, no_spans};
 use pieces::pieces::piece_end;
 
 // The places of the three spaces between four pieces, and where the pieces behind them begin. All are 0 where there are not four pieces.
-#[derive(Drop)]
+#[derive(Clone, Copy)]
 pub struct Spans {
     pub good: bool,
     pub first: usize,

@@ -18,7 +18,7 @@ use wire::get::wide;
 
 // What a record is looked at for: the level of a name; or, ordinary records of the name and its ancestors, NS for the control name and SOA for
 // the zone.
-#[derive(Drop)]
+#[derive(Clone, Copy)]
 pub enum Role {
     Level,
     Control,

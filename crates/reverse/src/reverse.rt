@@ -25,7 +25,7 @@ fn hex_digit(n: u8) -> u8
 }
 
 // A byte of an address as labels, of which there are len bytes.
-#[derive(Drop)]
+#[derive(Clone, Copy)]
 struct Labels {
     bytes: [u8; 4],
     len: usize,

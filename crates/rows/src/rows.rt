@@ -5,7 +5,7 @@ ghost use Rattle.rows.specs.Rows.{kind_number, row_of};
 use rules::kinds::Kind;
 
 // What the table has of a kind: how many fields, the default ttl, and a code for the meaning of each field.
-#[derive(Drop)]
+#[derive(Clone, Copy)]
 pub struct Row {
     pub count: usize,
     pub ttl: u32,

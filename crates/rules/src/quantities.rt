@@ -1,30 +1,30 @@
 // Kinds of number that can't be exchanged unnoticed.
-#[derive(Drop)]
+#[derive(Clone, Copy)]
 pub struct Port(pub u16);
 
-#[derive(Drop)]
+#[derive(Clone, Copy)]
 pub struct Priority(pub u16);
 
-#[derive(Drop)]
+#[derive(Clone, Copy)]
 pub struct Weight(pub u16);
 
 // Seconds that a record may be kept.
-#[derive(Drop)]
+#[derive(Clone, Copy)]
 pub struct Ttl(pub u32);
 
 // A second of time, as a TAI64 number.
-#[derive(Drop)]
+#[derive(Clone, Copy)]
 pub struct Moment(pub u64);
 
 // lo: the code of a location, two bytes; a record without one is for every client.
-#[derive(Drop)]
+#[derive(Clone, Copy)]
 pub enum Lo {
     Every,
     Code(u8, u8),
 }
 
 // What the records of one line share. Time 0 is none.
-#[derive(Drop)]
+#[derive(Clone, Copy)]
 pub struct Shared {
     pub ttl: Ttl,
     pub time: Moment,

@@ -12,7 +12,7 @@ use integers::integers::put_u32;
 use rules::quantities::Shared;
 
 // The numbers of an SOA record, in the order of its data.
-#[derive(Drop)]
+#[derive(Clone, Copy)]
 pub struct SoaNumbers {
     pub serial: u32,
     pub refresh: u32,

@@ -8,18 +8,18 @@ use rows::rows::{Row, row_of};
 use rules::kinds::Kind;
 
 // A field of a line: its first byte, and the place behind its last.
-#[derive(Drop)]
+#[derive(Clone, Copy)]
 pub struct Span(pub usize, pub usize);
 
 // The fields of a line, an empty one for each that is missing, if they are no more than they may be.
-#[derive(Drop)]
+#[derive(Clone, Copy)]
 struct Parted {
     spans: [Span; 11],
     fits: bool,
 }
 
 // The fields of a line of a kind, if they are no more than its row says; with the row, for what they mean.
-#[derive(Drop)]
+#[derive(Clone, Copy)]
 pub struct Fields {
     pub row: Row,
     pub spans: [Span; 11],

@@ -9,7 +9,7 @@ ghost use Rattle.stream.specs.Spans.{IsSpan};
 use wire::get::get_le;
 
 // What stands at the front: a record with the lengths of its key and its data, or bytes that its lengths don't fit.
-#[derive(Drop)]
+#[derive(Clone, Copy)]
 enum Head {
     Whole(usize, usize),
     Broken,
@@ -36,7 +36,7 @@ fn head_of(bytes: &[u8]) -> Head
 }
 
 // Where a record's key begins, where its data begin and where it ends.
-#[derive(Drop)]
+#[derive(Clone, Copy)]
 pub struct Span {
     pub start: usize,
     pub middle: usize,

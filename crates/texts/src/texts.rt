@@ -19,7 +19,7 @@ use txt::txt::put_text_record;
 use values::values::{shared_of, short_at};
 
 // The first len bytes are what a text stands for.
-#[derive(Drop)]
+#[derive(Clone, Copy)]
 pub struct PlainText {
     pub bytes: [u8; 1024],
     pub len: usize,

@@ -6,7 +6,7 @@ ghost use Rattle.times.specs.Views.{time_read};
 use digits::hex::hex_digit;
 use rules::quantities::Moment;
 
-#[derive(Drop)]
+#[derive(Clone, Copy)]
 pub enum TimeRead {
     Good(Moment),
     Bad,

@@ -2,7 +2,7 @@
 use rules::faults::Answer;
 use rules::replies::Response;
 
-#[derive(Drop)]
+#[derive(Clone, Copy)]
 pub enum Served {
     NotCompiled(Answer),
     Asked(Response),
