@@ -1,16 +1,14 @@
 use Rattle.judge.proofs.SeenRecords.{behind_laws}
 use Rattle.judge.proofs.fields_in.Goals as goal
 
--- OLD part-shared-in-start : tie.Need-slice-bounds-shared-in-start
--- part-shared-in-start c = search behind_laws
---
-
--- OLD part-shared-in-end : tie.Need-slice-bounds-shared-in-end
--- part-shared-in-end c = search behind_laws
---
-
 pub slice_bounds-shared_in-count : goal.slice_bounds-shared_in-count
 slice_bounds-shared_in-count c = search behind_laws
+
+pub slice_bounds-shared_in-start : goal.slice_bounds-shared_in-start
+slice_bounds-shared_in-start c = search behind_laws
+
+pub slice_bounds-shared_in-end : goal.slice_bounds-shared_in-end
+slice_bounds-shared_in-end c = search behind_laws
 
 pub shared_in-requires : goal.shared_in-requires
 shared_in-requires c = search behind_laws

@@ -1,4 +1,6 @@
 use Rattle.judge.proofs.Los.{two_letters, lo_laws}
+use mathlib.Core.Path.{ap}
+use mathlib.Core.Bool.{not}
 use Rattle.judge.proofs.is_lo.Goals as goal
 
 pub is_letter-requires : goal.is_letter-requires
@@ -15,4 +17,4 @@ is_letter-requires-2 c = search lo_laws
 
 pub returns : goal.returns
 returns c =
-    two_letters _ _ _ c.is_letter.ensures _ c.if-not-is_letter.false c.if-b-eq0.false c.is_letter-2.ensures
+    two_letters _ _ _ c.is_letter.ensures _ (ap not c.if-not-is_letter.false) c.if-b-eq0.false c.is_letter-2.ensures

@@ -29,5 +29,4 @@ pub by_flag-requires : goal.by_flag-requires
 by_flag-requires c = search type_laws
 
 pub returns : goal.returns
-returns c =
-    (typed _ _ _ _ _ c.if-rdata-lt3.false c.wide-high.ensures.value c.wide-low.ensures.value c.by_flag.ensures.result_value, c.by_flag.ensures.result_in_bounds)
+returns c = record { result_value = typed _ _ _ _ _ c.if-rdata-lt3.false c.wide-high.ensures.value c.wide-low.ensures.value c.by_flag.ensures.result_value; result_in_bounds = c.by_flag.ensures.result_in_bounds }
