@@ -18,8 +18,8 @@ put_times-requires c = search rules
 
 pub returns : goal.returns
 unfolding fixed_size
-returns c = (
-  then_two _ _ _ _ c.put_u16-a.ensures.put _ _ _ c.put_flag.ensures.put _ _ _ _ c.put_times.ensures.put
-      (fixed_is _ _ _ _ c.is_wild.ensures),
-  search rules,
-)
+returns c = record {
+  put = then_two _ _ _ _ c.put_u16-a.ensures.put _ _ _ c.put_flag.ensures.put _ _ _ _ c.put_times.ensures.put
+      (fixed_is _ _ _ _ c.is_wild.ensures);
+  value = search rules;
+}

@@ -26,8 +26,8 @@ put_fixed-requires c = search rules
 
 pub returns : goal.returns
 unfolding head_size fixed_size
-returns c = (
-  then_two _ _ _ _ c.put_lengths-a.ensures.put _ _ _ c.put_key.ensures.put _ _ _ _ c.put_fixed.ensures.put
-      (head_is _ _ _ _ _ _ c.key_size.ensures.value c.lo_size.ensures.value),
-  search rules,
-)
+returns c = record {
+  put = then_two _ _ _ _ c.put_lengths-a.ensures.put _ _ _ c.put_key.ensures.put _ _ _ _ c.put_fixed.ensures.put
+      (head_is _ _ _ _ _ _ c.key_size.ensures.value c.lo_size.ensures.value);
+  value = search rules;
+}

@@ -4,8 +4,8 @@ use Rattle.heads.proofs.Whole.{location_is}
 use Rattle.heads.proofs.locations.put_location.Goals as goal
 
 pub returns : goal.returns
-returns c = (
-  then_two _ _ _ _ c.put_lengths-a.ensures.put _ _ _ c.put_prefix_key.ensures.put _ _ _ _ c.put_lo.ensures.put
-      (location_is _ _ _ c.lo_size.ensures.value),
-  search rules,
-)
+returns c = record {
+  put = then_two _ _ _ _ c.put_lengths-a.ensures.put _ _ _ c.put_prefix_key.ensures.put _ _ _ _ c.put_lo.ensures.put
+      (location_is _ _ _ c.lo_size.ensures.value);
+  value = search rules;
+}

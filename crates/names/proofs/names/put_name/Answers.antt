@@ -1,6 +1,6 @@
-use mathlib.Core.Logic.{⊎_elim}
 use Rattle.names.proofs.Wire.{wire_laws}
 use Rattle.names.proofs.names.put_name.Goals as goal
+use Rattle.names.proofs.names.put_name.Goals.{then-n-eq1+else-text-eq46, else-n-eq1}
 
 pub bounds-text-0 : goal.bounds-text-0
 bounds-text-0 c = search wire_laws
@@ -15,7 +15,7 @@ pub returns-then-text-eq46 : goal.returns-then-text-eq46
 returns-then-text-eq46 c = search wire_laws
 
 pub loop-i-init : goal.loop-i-init
-loop-i-init c = ⊎_elim (λ w. search wire_laws) (λ w. search wire_laws) c.if-n-eq1.branch
+loop-i-init c = elim c.if-n-eq1.branch [ then-n-eq1+else-text-eq46 w ↦ search wire_laws | else-n-eq1 w ↦ search wire_laws ]
 
 pub bounds-text-i : goal.bounds-text-i
 bounds-text-i c = search wire_laws
