@@ -27,7 +27,7 @@ slice_bounds-put_address-end c = search sequence_laws
 
 pub put_address-requires : goal.put_address-requires
 put_address-requires c =
-    (c.requires.0.held, rest_fits _ _ _ _ _ c.requires.1 c.put_resource-used.ensures.0)
+    (c.requires.0.held, rest_fits _ _ _ _ _ c.requires.1 c.put_resource-used.ensures.put)
 
 pub overflow_add-result : goal.overflow_add-result
 overflow_add-result c = search sequence_laws
@@ -37,4 +37,4 @@ shape_of-out c = search sequence_laws
 
 pub returns : goal.returns
 returns c =
-    rest_put _ _ _ _ _ c.requires.1 c.put_resource-used.ensures.0 _ _ c.put_address.ensures
+    rest_put _ _ _ _ _ c.requires.1 c.put_resource-used.ensures.put _ _ c.put_address.ensures
