@@ -8,7 +8,7 @@ use borrow.Author.Rules.{rules}
 use borrow.Rule.Slice.PartMut.{put_mid}
 use lib.ListN.{length, take, drop, length-append}
 use Rattle.rules.specs.Lists.{pick, has}
-use Rattle.rules.specs.Names.{named, label, name_of, wire_of}
+use Rattle.rules.specs.Names.{label, name_of, wire_of}
 use Rattle.rules.specs.Records.{host_name}
 use Rattle.buffer.specs.Put.{IsPut}
 use Rattle.buffer.proofs.Puts.{behind_length, within, then}

@@ -20,7 +20,6 @@ use Rattle.names.specs.Views.{is_named}
 use Rattle.splits.specs.Splits.{FieldsOf}
 use Rattle.splits.specs.declared.splits.Span.{Span}
 use Rattle.values.specs.Ready.{Ready}
-use Rattle.names.specs.declared.names.Name.{Name}
 
 pub named_done : (r : NameRead) → T (is_done (name_fault r)) → is_named r ≡ true
 unfolding name_fault is_done
