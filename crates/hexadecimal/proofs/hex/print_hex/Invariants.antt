@@ -2,4 +2,4 @@ use Rattle.std.proofs.Common.{length, ◌-◌}
 use Rattle.hexadecimal.proofs.hex.print_hex.Given as goal
 
 abbrev pub decreases-loop-at : goal.decreases-loop-at
-decreases-loop-at l = length l.bytes - l.at
+decreases-loop-at g l = length l.bytes - l.at
