@@ -4,7 +4,7 @@ use Rattle.picks.proofs.pick_record.Goals as goal
 
 pub loop-at-init : goal.loop-at-init
 loop-at-init c =
-    (c.requires.from_in_bounds.0, c.requires.from_in_bounds.1, refl)
+    (c.requires.from_in_bounds, c.requires.stream_value, refl)
 
 pub span_at-span-requires : goal.span_at-span-requires
 span_at-span-requires c = search pick_laws
