@@ -101,10 +101,10 @@ module _ (role : Role) (name stream : List ℕ) where
     front = p.front;
     middle = p.middle;
     back = parts_join stream until at to _ _ p.reached q.ordered q.inside p.back q.read;
-    front_size = p.front-size;
-    back_size = omega (arith, sizes_add p.behind q.records, p.back-size, q.size_is);
-    front_rank = p.front-rank;
-    back_rank = λ here moment. omega (arith, largest_append (seen_rank role name here moment) p.behind q.records, p.back-rank here moment, q.unranked role here moment);
+    front_size = p.front_size;
+    back_size = omega (arith, sizes_add p.behind q.records, p.back_size, q.size_is);
+    front_rank = p.front_rank;
+    back_rank = λ here moment. omega (arith, largest_append (seen_rank role name here moment) p.behind q.records, p.back_rank here moment, q.unranked role here moment);
   }
 
   module _ (from until at : ℕ) (p : Passed role name stream from until at) (span : Span) (i : IsSpan stream at span) where
@@ -131,10 +131,10 @@ module _ (role : Role) (name stream : List ℕ) where
           front = p.front;
           middle = p.middle;
           back = parts_join stream until at span.next _ _ p.reached (omega (arith, i.goes_on)) i.inside p.back (alone o.rec o.is);
-          front_size = p.front-size;
-          back_size = omega (arith, sizes_add p.behind (o.rec ∷ []), p.back-size, ends stream at span i o.rec o.is);
-          front_rank = p.front-rank;
-          back_rank = λ here moment. one_more (seen_rank role name here moment) p.behind o.rec (p.back-rank here moment) (z here moment);
+          front_size = p.front_size;
+          back_size = omega (arith, sizes_add p.behind (o.rec ∷ []), p.back_size, ends stream at span i o.rec o.is);
+          front_rank = p.front_rank;
+          back_rank = λ here moment. one_more (seen_rank role name here moment) p.behind o.rec (p.back_rank here moment) (z here moment);
         }
 
     module _ (found : Read name key rdata) where
@@ -150,9 +150,9 @@ module _ (role : Role) (name stream : List ℕ) where
         front = rw z at p.back;
         middle = alone found.rec found.is;
         back = no_part stream span.next;
-        front_size = omega (arith, p.back-size);
+        front_size = omega (arith, p.back_size);
         back_size = omega arith;
-        front_rank = p.back-rank;
+        front_rank = p.back_rank;
         back_rank = λ here moment. refl;
       }
 
@@ -170,9 +170,9 @@ module _ (role : Role) (name stream : List ℕ) where
             parts_join stream from at span.next _ _ (omega (arith, p.ordered, p.reached)) (omega (arith, i.goes_on)) i.inside
             (parts_join stream from until at _ _ p.ordered p.reached (omega (arith, i.goes_on, i.inside)) p.middle p.back) (alone found.rec found.is);
         back = no_part stream span.next;
-        front_size = p.front-size;
+        front_size = p.front_size;
         back_size = omega arith;
-        front_rank = p.front-rank;
+        front_rank = p.front_rank;
         back_rank = λ here moment. refl;
       }
 
@@ -193,7 +193,7 @@ module _ (role : Role) (name stream : List ℕ) where
       ordered = p.ordered;
       inside = omega (arith, p.reached);
       whole = λ w. rw p.middle;
-      ranks = λ here moment w. rw (p.middle, all_read) (same_ranks (seen_rank role name here moment) (p.front-rank here moment) (p.back-rank here moment));
+      ranks = λ here moment w. rw (p.middle, all_read) (same_ranks (seen_rank role name here moment) (p.front_rank here moment) (p.back_rank here moment));
       picks = λ type here moment best ordinal w z.
-          rw (p.middle, all_read, ← p.front-size) (picked_between type role name here moment best z ordinal p.before p.between p.behind p.front-rank p.back-rank);
+          rw (p.middle, all_read, ← p.front_size) (picked_between type role name here moment best z ordinal p.before p.between p.behind p.front_rank p.back_rank);
     }

@@ -73,10 +73,10 @@ module _ (client name stream : List ℕ) (best : Located) (level control : Part)
   moves : Going client name stream best level control to
   moves = record {
     inside = q.inside;
-    located_there = g.located-there ∙ q.unlocated client (best_seen best);
-    level_passed = plain_passed Role.Level level g.level-passed;
-    control_passed = plain_passed Role.Control control g.control-passed;
-    zone_passed = plain_passed Role.Zone control g.zone-passed;
+    located_there = g.located_there ∙ q.unlocated client (best_seen best);
+    level_passed = plain_passed Role.Level level g.level_passed;
+    control_passed = plain_passed Role.Control control g.control_passed;
+    zone_passed = plain_passed Role.Zone control g.zone_passed;
   }
 
 -- at a record
@@ -105,11 +105,11 @@ module _ (client name stream : List ℕ) (best : Located) (level control : Part)
 
     same : (a b : Bool) → step_of name key (record_in key rdata) ≡ seen a b → located_in client (decode stream) ≡ located_from client (best_seen best) (decode (drop span.next stream))
     unfolding part
-    same a b e = (rw i.says at g.located-there) ∙ step_same name key client (best_seen best) a b _ (decode (drop span.next stream)) e
+    same a b e = (rw i.says at g.located_there) ∙ step_same name key client (best_seen best) a b _ (decode (drop span.next stream)) e
 
     broken_at : r ≡ Step.Broken → judged_lo Judged.Broken ≡ located_in client (decode stream)
     unfolding part onto_records step_seen judged_lo located_from
-    broken_at b = sym (g.located-there ∙ rw (i.says, step_none name key _ (is_step Step.Broken b)))
+    broken_at b = sym (g.located_there ∙ rw (i.says, step_none name key _ (is_step Step.Broken b)))
 
     located_at : (lo : Lo) → r ≡ Step.Location lo → (record_in key rdata ≡ some (location (drop 2 key) (lo_bytes lo))) × (2 ≤ length key)
     unfolding step_seen
@@ -123,10 +123,10 @@ module _ (client name stream : List ℕ) (best : Located) (level control : Part)
         let m = met_location name key rdata (drop 2 key) (lo_bytes lo) l in
         record {
           inside = i.inside;
-          located_there = (rw (i.says, l) at g.located-there) ∙ (rw (← e) at (step_better client (best_seen best) (drop 2 key) (lo_bytes lo) (decode (drop span.next stream))));
-          level_passed = stays Role.Level level g.level-passed m.read (m.level refl);
-          control_passed = stays Role.Control control g.control-passed m.read (m.control refl);
-          zone_passed = stays Role.Zone control g.zone-passed m.read (m.zone refl);
+          located_there = (rw (i.says, l) at g.located_there) ∙ (rw (← e) at (step_better client (best_seen best) (drop 2 key) (lo_bytes lo) (decode (drop span.next stream))));
+          level_passed = stays Role.Level level g.level_passed m.read (m.level refl);
+          control_passed = stays Role.Control control g.control_passed m.read (m.control refl);
+          zone_passed = stays Role.Zone control g.zone_passed m.read (m.zone refl);
         }
 
     both_at : (l c : Part) → r ≡ Step.Both → l ≡ grown_to level at span.next → c ≡ grown_to control at span.next → Going client name stream best l c span.next
@@ -136,9 +136,9 @@ module _ (client name stream : List ℕ) (best : Located) (level control : Part)
         record {
           inside = i.inside;
           located_there = same true true (is_step Step.Both b);
-          level_passed = grows Role.Level level l g.level-passed m.read x;
-          control_passed = grows Role.Control control c g.control-passed m.read y;
-          zone_passed = grows Role.Zone control c g.zone-passed m.read y;
+          level_passed = grows Role.Level level l g.level_passed m.read x;
+          control_passed = grows Role.Control control c g.control_passed m.read y;
+          zone_passed = grows Role.Zone control c g.zone_passed m.read y;
         }
 
     candidate_at : (l : Part) → r ≡ Step.Candidate → l ≡ grown_to level at span.next → Going client name stream best l control span.next
@@ -148,9 +148,9 @@ module _ (client name stream : List ℕ) (best : Located) (level control : Part)
         record {
           inside = i.inside;
           located_there = same true false (is_step Step.Candidate b);
-          level_passed = grows Role.Level level l g.level-passed m.read x;
-          control_passed = stays Role.Control control g.control-passed m.read (m.control refl);
-          zone_passed = stays Role.Zone control g.zone-passed m.read (m.zone refl);
+          level_passed = grows Role.Level level l g.level_passed m.read x;
+          control_passed = stays Role.Control control g.control_passed m.read (m.control refl);
+          zone_passed = stays Role.Zone control g.zone_passed m.read (m.zone refl);
         }
 
     control_at : (c : Part) → r ≡ Step.Control → c ≡ grown_to control at span.next → Going client name stream best level c span.next
@@ -160,9 +160,9 @@ module _ (client name stream : List ℕ) (best : Located) (level control : Part)
         record {
           inside = i.inside;
           located_there = same false true (is_step Step.Control b);
-          level_passed = stays Role.Level level g.level-passed m.read (m.level refl);
-          control_passed = grows Role.Control control c g.control-passed m.read y;
-          zone_passed = grows Role.Zone control c g.zone-passed m.read y;
+          level_passed = stays Role.Level level g.level_passed m.read (m.level refl);
+          control_passed = grows Role.Control control c g.control_passed m.read y;
+          zone_passed = grows Role.Zone control c g.zone_passed m.read y;
         }
 
     other_at : r ≡ Step.Other → Going client name stream best level control span.next
@@ -172,9 +172,9 @@ module _ (client name stream : List ℕ) (best : Located) (level control : Part)
         record {
           inside = i.inside;
           located_there = same false false (is_step Step.Other b);
-          level_passed = stays Role.Level level g.level-passed m.read (m.level refl);
-          control_passed = stays Role.Control control g.control-passed m.read (m.control refl);
-          zone_passed = stays Role.Zone control g.zone-passed m.read (m.zone refl);
+          level_passed = stays Role.Level level g.level_passed m.read (m.level refl);
+          control_passed = stays Role.Control control g.control_passed m.read (m.control refl);
+          zone_passed = stays Role.Zone control g.zone_passed m.read (m.zone refl);
         }
 
 -- where the pass over plain records stopped
@@ -193,10 +193,10 @@ module _ (client name stream : List ℕ) (best : Located) (level control : Part)
     reached = moves client name stream best level control at g f stopped.plain
 
     pub key_ordered : a ≤ m
-    key_ordered = stopped.span.key-first
+    key_ordered = stopped.span.key_first
 
     pub key_inside : m ≤ length stream
-    key_inside = omega (arith, stopped.span.data-behind, stopped.span.inside)
+    key_inside = omega (arith, stopped.span.data_behind, stopped.span.inside)
 
     pub stop_less : at < length stream → length stream - n < length stream - at
     stop_less h = omega (arith, stopped.plain.ordered, stopped.span.goes_on, stopped.span.inside)
@@ -226,13 +226,13 @@ module _ (client name stream : List ℕ) (best : Located) (level control : Part)
 module _ (client name stream : List ℕ) (best : Located) (level control : Part) (at : ℕ) (g : Going client name stream best level control at) (h : length stream ≤ at) where
   pub all_located : judged_lo (Judged.Whole best.lo level.from level.until control.from control.until) ≡ located_in client (decode stream)
   unfolding judged_lo located_from best_of best_seen
-  all_located = sym (g.located-there ∙ rw (drop_of_length-le stream h, decode_nil))
+  all_located = sym (g.located_there ∙ rw (drop_of_length-le stream h, decode_nil))
 
   pub all_covered : Covered name stream (Judged.Whole best.lo level.from level.until control.from control.until)
   all_covered = (
-    covers Role.Level name stream level.from level.until at g.level-passed g.inside h,
-    covers Role.Control name stream control.from control.until at g.control-passed g.inside h,
-    covers Role.Zone name stream control.from control.until at g.zone-passed g.inside h,
+    covers Role.Level name stream level.from level.until at g.level_passed g.inside h,
+    covers Role.Control name stream control.from control.until at g.control_passed g.inside h,
+    covers Role.Zone name stream control.from control.until at g.zone_passed g.inside h,
   )
 
 pub ruleset locate_laws = (rules, at_first, ended_goes, key_ordered, key_inside, stop_less, breaks, prefix_there, location_goes, both_goes, candidate_goes, control_goes, other_goes, all_located, all_covered)

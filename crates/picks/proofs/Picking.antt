@@ -124,10 +124,10 @@ same_reply type role name here moment best end (resource owner rtype lo ttl time
 
 module _ (stream : List ℕ) (at : ℕ) (span : Span) (i : IsSpan stream at span) where
   key_long : length (take (span.middle - span.start) (drop span.start stream)) ≡ span.middle - span.start
-  key_long = length-take-le _ _ (omega (arith, length-drop span.start stream, i.inside, i.key-first, i.data-behind))
+  key_long = length-take-le _ _ (omega (arith, length-drop span.start stream, i.inside, i.key_first, i.data_behind))
 
   data_long : length (take (span.next - span.middle) (drop span.middle stream)) ≡ span.next - span.middle
-  data_long = length-take-le _ _ (omega (arith, length-drop span.middle stream, i.inside, i.data-behind))
+  data_long = length-take-le _ _ (omega (arith, length-drop span.middle stream, i.inside, i.data_behind))
 
   -- a record ends where the next begins
   pub ends : (r : Record) → record_in (take (span.middle - span.start) (drop span.start stream)) (take (span.next - span.middle) (drop span.middle stream)) ≡ some r
@@ -136,8 +136,8 @@ module _ (stream : List ℕ) (at : ℕ) (span : Span) (i : IsSpan stream at span
       let s : size r ≡ 8 + length (take (span.middle - span.start) (drop span.start stream)) + length (take (span.next - span.middle) (drop span.middle stream))
       = size_is _ _ r (shaped _ _ r e) in
       let k : 0 < length (take (span.middle - span.start) (drop span.start stream)) = key_there _ _ r e in
-      let h : span.start ≡ at + 8 = i.lengths-first (omega (arith, key_long)) in
-      omega (arith, key_long, data_long, i.key-first, i.data-behind)
+      let h : span.start ≡ at + 8 = i.lengths_first (omega (arith, key_long)) in
+      omega (arith, key_long, data_long, i.key_first, i.data_behind)
 
   pub data_inside : length (take (span.next - span.middle) (drop span.middle stream)) ≤ span.next
   data_inside = omega (arith, data_long)

@@ -65,6 +65,6 @@ module _ (bytes : List ℕ) (at : ℕ) where
     unfolding found_at places_at pick
     whole_there q =
         let l = key_there q in
-        rw (whole_flag, q, i.lengths-first l, i.key-ends l, i.data-end l)
+        rw (whole_flag, q, i.lengths_first l, i.key_ends l, i.data_end l)
 
 pub ruleset place_laws = (rules, at_end, malformed_there, whole_there)

@@ -134,5 +134,5 @@ module _ (stream : List ℕ) (at : ℕ) where
     pub record_part : decode (drop at (take span.next stream)) ≡ some (r ∷ [])
     record_part =
         let n : length (take at stream) ≡ at = length-take-le at stream (omega (arith, i.goes_on, i.inside)) in
-        rw (i.data-end key_long, take-add at (size_at (drop at stream)) stream, drop_at (take at stream) (take (size_at (drop at stream)) (drop at stream)) at n)
+        rw (i.data_end key_long, take-add at (size_at (drop at stream)) stream, drop_at (take at stream) (take (size_at (drop at stream)) (drop at stream)) at n)
         (one_record (drop at stream) r (i.here ∙ e))

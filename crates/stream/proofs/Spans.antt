@@ -27,30 +27,30 @@ module _ (stream : List ℕ) (at : ℕ) (h : Head) (e : h ≡ head_of (take (len
     whole = whole_is (drop at stream) k d (sym w ∙ head_left)
 
     pub long_enough : at + 8 + k + d ≤ length stream
-    long_enough = unfold size_at in omega (arith, whole.long, whole.key-is, whole.data_is, length-drop at stream)
+    long_enough = unfold size_at in omega (arith, whole.long, whole.key_is, whole.data_is, length-drop at stream)
 
     key_part : key_at (drop at stream) ≡ part stream (at + 8) (at + 8 + k)
     unfolding key_at part
     key_part =
         let q : at + 8 + k - (at + 8) ≡ k = omega arith in
-        rw (q, ← whole.key-is, drop-drop 8 at stream)
+        rw (q, ← whole.key_is, drop-drop 8 at stream)
 
     data_part : data_at (drop at stream) ≡ part stream (at + 8 + k) (at + 8 + k + d)
     unfolding data_at part
     data_part =
         let q : at + 8 + k + d - (at + 8 + k) ≡ d = omega arith in
         let p : at + (8 + k) ≡ at + 8 + k = omega arith in
-        rw (q, ← whole.key-is, ← whole.data_is, drop-drop (8 + k) at stream, p)
+        rw (q, ← whole.key_is, ← whole.data_is, drop-drop (8 + k) at stream, p)
 
     pub spanned : IsSpan stream at (record { start = at + 8; middle = at + 8 + k; next = at + 8 + k + d })
     unfolding record_at pick
     spanned =
-        let q : at + size_at (drop at stream) ≡ at + 8 + k + d = unfold size_at in omega (arith, whole.key-is, whole.data_is) in
+        let q : at + size_at (drop at stream) ≡ at + 8 + k + d = unfold size_at in omega (arith, whole.key_is, whole.data_is) in
         record {
           says = decode_more (drop at stream) left_long ∙ rw (whole.fit, key_part, data_part, drop-drop (size_at (drop at stream)) at stream, q);
           here = rw (whole.fit, key_part, data_part);
           lengths_first = λ h. refl;
-          key_ends = λ h. ap (λ n. at + 8 + n) whole.key-is;
+          key_ends = λ h. ap (λ n. at + 8 + n) whole.key_is;
           data_end = λ h. sym q;
           goes_on = omega arith;
           inside = long_enough;
