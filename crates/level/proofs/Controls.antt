@@ -43,7 +43,7 @@ data In (c : List ℕ) : List (List ℕ) → Type 0 where
   here : {names : List (List ℕ)} → In c (c ∷ names)
   there : {a : List ℕ} {names : List (List ℕ)} → In c names → In c (a ∷ names)
 
-in_below : (n : ℕ) {c : List ℕ} {names : List (List ℕ)} → Descending n names → In c names → (length c < n) × (0 < length c)
+in_below : {c : List ℕ} (n : ℕ) {names : List (List ℕ)} → Descending n names → In c names → (length c < n) × (0 < length c)
 in_below n d here = (d.0, d.1)
 in_below n d (there {a = a} i) = let two = in_below (length a) d.2 i in (omega (arith, d.0), two.1)
 
@@ -111,10 +111,10 @@ first_told true w n h = sym (eq-eqb w w refl)
 first_told false w n h = sym (ne_eqb n w (λ e. omega arith))
 
 -- the ordinary records of a name and a type are those of its length
-typed_at : (type n : ℕ) {c : List ℕ} {names : List (List ℕ)} → Descending n names → In c names → (r : Record) → (ordinary_of c r && of_type type r) ≡ eqb (control_among type names r) (length c)
+typed_at : {c : List ℕ} (type n : ℕ) {names : List (List ℕ)} → Descending n names → In c names → (r : Record) → (ordinary_of c r && of_type type r) ≡ eqb (control_among type names r) (length c)
 unfolding control_among
-typed_at type n {c} d (here {names = names}) r = first_told (ordinary_of c r && of_type type r) (length c) (control_among type names r) (control_below type (length c) names d.1 d.2 r)
-typed_at type n {c} d (there {a = a} {names = names} i) r = by (ordinary_of a r && of_type type r) refl (typed_at type (length a) d.2 i r)
+typed_at {c} type n d (here {names = names}) r = first_told (ordinary_of c r && of_type type r) (length c) (control_among type names r) (control_below type (length c) names d.1 d.2 r)
+typed_at {c} type n d (there {a = a} {names = names} i) r = by (ordinary_of a r && of_type type r) refl (typed_at type (length a) d.2 i r)
   where
     by : (b : Bool) → (ordinary_of a r && of_type type r) ≡ b → (ordinary_of c r && of_type type r) ≡ eqb (control_among type names r) (length c)
         → (ordinary_of c r && of_type type r) ≡ eqb (pick b (length a) (control_among type names r)) (length c)
