@@ -15,12 +15,7 @@ use refusals::faults::number;
 use rules::quantities::Moment;
 
 // Compiles a source; the answer's numbers go into 32 lent bytes, and the first is returned.
-pub fn tinydns_compile(
-    source: &[u8],
-    serial: u32,
-    out: &mut [u8],
-    answer: &mut [u8],
-) -> u64
+pub fn tinydns_compile(source: &[u8], serial: u32, out: &mut [u8], answer: &mut [u8]) -> u64
     ensures { Compiles source.now serial out.old answer.old out.new answer.new result }
 {
     if answer.len() != 32 {
