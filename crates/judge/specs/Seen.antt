@@ -27,7 +27,7 @@ fixed_in Seen.Broken = 0
 fixed_in (Seen.Location lo) = 0
 fixed_in (Seen.Resource wild type shared fixed) = fixed
 
--- ttl and time behind lo, as rules' behindLo reads them
+-- ttl and time behind lo, as rules' behind_lo reads them
 unfoldable pub shared_in : Lo → List ℕ → Fields
 shared_in lo rest =
     let ttl = from_be 0 (take 4 rest) in

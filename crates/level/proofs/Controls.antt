@@ -29,8 +29,8 @@ unfoldable pub ranked : (Record → ℕ) → ℕ → List Placed → List Placed
 ranked f n ps = keep (λ p. eqb (f p.rec) n) ps
 
 -- outcome and list by two numbers: the control name's length, and the largest rank
-unfoldable pub by_rank_lem : ℕ → List ℕ → List Placed → Result
-by_rank_lem type name ps =
+unfoldable pub by_rank : ℕ → List ℕ → List Placed → Result
+by_rank type name ps =
     let control = largest (λ p. control_rank 2 name p.rec) ps in
     let best = largest (λ p. rank_of name p.rec) ps in
     let zone = pick (leb control best) (in_zone type (ranked (rank_of name) best ps)) (record { outcome = Outcome.NoSuchName; list = [] }) in
@@ -153,11 +153,11 @@ module _ (type : ℕ) (name : List ℕ) (t : T (is_wire name)) (ps : List Placed
           ap (in_zone type) (chosen_is name ps (omega arith))
       by false e = unfold pick in_zone by_level in refl
 
-  pub by_rank : by_control type name ps (control_of ps (name ∷ ancestors name)) ≡ by_rank_lem type name ps
-  unfolding by_rank_lem control_rank by_control ranked pick
-  by_rank = by (control_is ps (suc (length name)) (name ∷ ancestors name) names_descend)
+  pub by_rank_lem : by_control type name ps (control_of ps (name ∷ ancestors name)) ≡ by_rank type name ps
+  unfolding by_rank control_rank by_control ranked pick
+  by_rank_lem = by (control_is ps (suc (length name)) (name ∷ ancestors name) names_descend)
     where
-      by : {o : Option (List ℕ)} → Controlled (name ∷ ancestors name) o (largest (λ p. control_rank 2 name p.rec) ps) → by_control type name ps o ≡ by_rank_lem type name ps
+      by : {o : Option (List ℕ)} → Controlled (name ∷ ancestors name) o (largest (λ p. control_rank 2 name p.rec) ps) → by_control type name ps o ≡ by_rank type name ps
       by (nobody z) = rw z
       by (ruled c i l) =
           let two = in_below (suc (length name)) names_descend i in

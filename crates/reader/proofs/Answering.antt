@@ -21,7 +21,7 @@ use Rattle.rules.proofs.Tests.{pick_ok, pick_ap}
 use Rattle.ranks.specs.Ranks.{rank_of, control_rank, role_rank, largest, seen_rank}
 use Rattle.ranks.specs.declared.Role.{Role}
 use Rattle.picks.specs.Picks.{wanted, picked_from}
-use Rattle.level.proofs.Controls.{ranked, by_rank_lem, by_rank}
+use Rattle.level.proofs.Controls.{ranked, by_rank, by_rank_lem}
 use Rattle.reader.specs.Answers.{is_found, said, level_from, zone_from, controlled_from, answered_from}
 
 -- ---- rank and type in one test
@@ -158,8 +158,8 @@ module _ (type : ℕ) (name here : List ℕ) (moment ordinal : ℕ) (rs : List R
   controlled_is control z =
       rw (found_any Role.Zone control z, zone_is control z, any_is Role.Control control z ordinal) (sym (pick_ap (λ (r : Result). response_of moment r ordinal) (is_full (ranked (control_rank 6 name) control seen)) _ _))
 
-  by_number : answered_from type name here moment ordinal rs ≡ response_of moment (by_rank_lem type name seen) ordinal
-  unfolding answered_from by_rank_lem role_rank
+  by_number : answered_from type name here moment ordinal rs ≡ response_of moment (by_rank type name seen) ordinal
+  unfolding answered_from by_rank role_rank
   by_number = rw (rank_is Role.Control, rank_is Role.Level) (by (eqb (largest (seen_rank Role.Control name here moment) rs) 0) refl)
     where
       control : ℕ
@@ -173,4 +173,4 @@ module _ (type : ℕ) (name here : List ℕ) (moment ordinal : ℕ) (rs : List R
       by false e = unfold pick in (let z : control ≡ 0 → ⊥ = eqb-false control 0 e in controlled_is control (omega arith))
 
   pub answer_is : T (is_wire name) → answered_from type name here moment ordinal rs ≡ response_of moment (by_control type name seen (control_of seen (name ∷ ancestors name))) ordinal
-  answer_is t = by_number ∙ ap (λ (r : Result). response_of moment r ordinal) (sym (by_rank type name t seen))
+  answer_is t = by_number ∙ ap (λ (r : Result). response_of moment r ordinal) (sym (by_rank_lem type name t seen))

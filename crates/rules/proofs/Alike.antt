@@ -1,23 +1,20 @@
 -- Records that give the same result wherever they stand, and streams that then answer alike.
 use mathlib.Core.Path.{◌≡◌, refl, sym, ap, ◌∙◌}
-use Prim.Native.Nat.{ℕ, zero, suc, ◌+◌, ◌-◌, ◌≤◌}
-use native.Mathlib.Omega.{arith}
-use mathlib.Core.Bool.{Bool, true, false, not}
+use Prim.Native.Nat.{ℕ, zero, suc, ◌+◌}
+use mathlib.Core.Bool.{Bool, true, false}
 use mathlib.Core.List.{List, [], ◌∷◌, map, nil≢cons, cons≢nil, head-eq_of_cons-eq, tail-eq_of_cons-eq}
-use mathlib.Core.Option.{Option, none, some}
+use mathlib.Core.Option.{some}
 use lib.ListN.{length, get_elem?}
-use lib.Dec.{T, leb}
 use Rattle.rules.specs.declared.replies.AskFault.{AskFault}
 use Rattle.rules.specs.declared.replies.Response.{Response}
 use Rattle.rules.specs.declared.replies.Reply.{Reply}
 use Rattle.rules.specs.Lists.{pick, keep, lower}
 use Rattle.rules.specs.Records.{Record}
-use Rattle.rules.specs.Names.{is_wire}
-use Rattle.rules.specs.Bytes.{rdata_of, bytes_of, size, size_of_all}
+use Rattle.rules.specs.Bytes.{rdata_of, bytes_of, size}
 use Rattle.rules.specs.Questions.{Question, Placed, placed_from, location_of, visible, lifetime_of, ancestors, control_of, Result, by_control, answers}
-use Rattle.rules.specs.Reading.{type_of, moment_end, is_client, reply_of, response_of, response_from, refusal, response_decoded, ask_response}
+use Rattle.rules.specs.Reading.{type_of, reply_of, response_of, response_from, refusal}
 use Rattle.rules.specs.Towns.{result_from, SameResult, without_place, handed, SameResponse, AnswerAlike}
-use Rattle.rules.proofs.Lists.{OnSome, All, nil, cons, all_weaken, all_at, keep_map}
+use Rattle.rules.proofs.Lists.{All, nil, cons, keep_map}
 use Rattle.rules.proofs.Records.{Ok}
 use Rattle.rules.proofs.Meaning.{answers_all, Held, held, asked_records}
 use Rattle.rules.proofs.Unseen.{Unseen, changed, answers_same}

@@ -11,7 +11,7 @@ use Rattle.rules.specs.Questions.{placed_from, matches, better, best_of, locatio
 use Rattle.rules.specs.Reading.{lowered, ordinary_key, wildcard_key, is_lo, moment_end, behind_lo, with_lo, by_flag, resource_in, location_in, record_in, onto_records, decode_one, decode_from, decode, response_numbers, type_of, reply_of, response_of, response_from, refusal, response_decoded, is_client, ask_response}
 use Rattle.rules.specs.Bench.{Case, Said, source_of, rdata_at, tell, said, wire, lengths, plain, day, three_days, soa_ttl, accepted, no_more, only, compiled, refused_with, compile, asking, table, example, button, panic, heaven, mx_heaven, ns_heaven, service, service_host, soa_numbers, zone, changeover, expected, BenchHolds}
 use Rattle.rules.specs.Examples.{refusals, refusal_cases, refusals_expected, documentation, documentation_name, unasked, refused_ask, examples, examples_expected, ExamplesHold}
-use Rattle.rules.specs.OutcomeExamples.{Row, told_from, told_of, asks, row, found, none, one, nothing, town, referral, from, at, starts, ends, two_sides, other_soas, delegated, rows, OutcomeExamplesHold}
+use Rattle.rules.specs.OutcomeExamples.{told_from, told_of, asks, row, found, none, one, nothing, town, referral, from, at, starts, ends, two_sides, other_soas, delegated, rows, OutcomeExamplesHold}
 use Rattle.rules.specs.Joining.{ended, ended_but_last, closed, joined_files}
 use Rattle.rules.specs.JoiningExamples.{joined, said_of, north, south, joined_rows, joined_bytes, JoiningExamplesHold}
 

@@ -75,8 +75,8 @@ pub data Says (rs : List Record) : Bool → Option Shared → Type 0 where
   shares : {b : Bool} (s : Shared) → T (not b) → All (Carries s) rs → Says rs b (some s)
 
 -- the kinds behind the first test of `kind_of`
-other_kind_lem : ℕ → Kind
-other_kind_lem b =
+other_kind : ℕ → Kind
+other_kind b =
     pick (eqb b 46) Kind.Zone
     (pick (eqb b 38) Kind.Delegation
     (pick (eqb b 61) Kind.Host
@@ -93,9 +93,9 @@ other_kind_lem b =
 or_other : (b : Bool) (k x : Kind) → Other k → Other x → Other (pick b k x)
 or_other b k x h i = pick_ok Other b (λ t. h) (λ t. i)
 
-other_kind : (b : ℕ) → Other (other_kind_lem b)
-unfolding other_kind_lem
-other_kind b =
+other_kind_lem : (b : ℕ) → Other (other_kind b)
+unfolding other_kind
+other_kind_lem b =
     or_other _ _ _ tt (or_other _ _ _ tt (or_other _ _ _ tt (or_other _ _ _ tt (or_other _ _ _ tt (or_other _ _ _ tt
     (or_other _ _ _ tt (or_other _ _ _ tt (or_other _ _ _ tt (or_other _ _ _ tt (or_other _ _ _ tt tt))))))))))
 
@@ -109,7 +109,7 @@ module _ (serial : ℕ) where
   by_tests fields false false x o = shares _ tt (kind_carries serial fields x o)
 
   pub stripped_says : (l : List ℕ) → Says (stripped_records serial l) (is_location_line l) (shared_in l)
-  unfolding stripped_records is_location_line shared_in kind_of other_kind_lem
+  unfolding stripped_records is_location_line shared_in kind_of other_kind
   stripped_says [] = nothing refl
   stripped_says (k ∷ rest) =
-      by_tests (split_on 58 rest) (ignored k) (eqb k 37) (other_kind_lem k) (other_kind k)
+      by_tests (split_on 58 rest) (ignored k) (eqb k 37) (other_kind k) (other_kind_lem k)

@@ -1,7 +1,7 @@
 -- An answer depends on few records: the others can be left out.
 use mathlib.Core.Path.{◌≡◌, refl, sym, ap, ap₂, ◌∙◌}
 use Prim.Native.Nat.{ℕ}
-use mathlib.Core.Bool.{Bool, true, false, not, ◌&&◌, ◌||◌}
+use mathlib.Core.Bool.{Bool, true, false, not, ◌||◌}
 use mathlib.Core.List.{List, [], ◌∷◌, map}
 use mathlib.Core.Option.{Option, none, some}
 use lib.Dec.{T}
@@ -9,11 +9,10 @@ use mir.Facts.{T_not}
 use Rattle.rules.specs.Lists.{pick, keep, any, lower}
 use Rattle.rules.specs.Records.{Record, location, resource}
 use Rattle.rules.specs.Answers.{source_records}
-use Rattle.rules.specs.Questions.{Question, Placed, Best, better, best_of, location_of, visible, ordinary_of, wildcard_of, ancestors, ancestors_to, first_full, level, of_type, ordinary_of_type, is_full, control_of, in_zone, by_control, answers}
-use Rattle.rules.specs.Towns.{AnswerAlike}
+use Rattle.rules.specs.Questions.{Question, Placed, Best, better, best_of, location_of, visible, ordinary_of, wildcard_of, ancestors, ancestors_to, first_full, level, of_type, ordinary_of_type, control_of, by_control, answers}
 use Rattle.rules.specs.Index.{is_location, matters, matters_to, OtherNamesAreUnseen, TheseAloneDecide, TheseAloneAreAsked, AnIndexIsEnough}
 use Rattle.rules.proofs.Tests.{and_l, or_l, or_r, pick_ok}
-use Rattle.rules.proofs.Lists.{OnSome, All, nil, cons, all_head, all_tail, all_keep, all_weaken, keep_map}
+use Rattle.rules.proofs.Lists.{OnSome, All, nil, cons, all_head, all_keep, all_weaken, keep_map}
 use Rattle.rules.proofs.Meaning.{source_ok, written}
 use Rattle.rules.proofs.Alike.{bare, same_bare, asked_alike}
 

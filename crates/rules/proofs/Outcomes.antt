@@ -1,17 +1,17 @@
 -- An outcome and its list fit together.
-use mathlib.Core.Path.{◌≡◌, refl, sym, ap, ◌∙◌}
+use mathlib.Core.Path.{◌≡◌, refl, ap, ◌∙◌}
 use Prim.Native.Nat.{ℕ, zero, suc, ◌<◌, ◌≤◌}
 use native.Mathlib.Omega.{arith}
 use mathlib.Core.Bool.{Bool, true, false, ◌&&◌}
 use mathlib.Core.List.{List, [], ◌∷◌, ◌++◌, map}
 use mathlib.Core.Option.{Option, none, some}
-use borrow.Author.Tests.{le-leb, lt-leb, leb-true, leb-false}
+use borrow.Author.Tests.{le-leb, lt-leb, leb-false}
 use lib.Dec.{T, leb}
 use lib.ListN.{length}
 use Rattle.rules.specs.declared.replies.Outcome.{Outcome}
 use Rattle.rules.specs.Lists.{pick, keep, all}
-use Rattle.rules.specs.Questions.{Question, Placed, ordinary_of, wildcard_of, ancestors_from, ancestors, ancestors_to, first_full, level, of_type, ordinary_of_type, is_full, control_of, Result, by_level, in_zone, by_control, answers}
-use Rattle.rules.specs.Outcomes.{visible_to, control_name, NamesWithoutControlAreNotOurs, DelegationsRefer, has_records, OutcomesFitLists, Refers, ReferralsAreNameServers, list_of01, RecordsAreThoseOf01, TheClimbEndsAtControl, TheControlNameClimbsNowhere}
+use Rattle.rules.specs.Questions.{Placed, ordinary_of, wildcard_of, ancestors_from, ancestors, ancestors_to, first_full, level, of_type, ordinary_of_type, is_full, control_of, Result, by_level, in_zone, by_control, answers}
+use Rattle.rules.specs.Outcomes.{visible_to, control_name, NamesWithoutControlAreNotOurs, DelegationsRefer, has_records, OutcomesFitLists, ReferralsAreNameServers, list_of01, RecordsAreThoseOf01, TheClimbEndsAtControl, TheControlNameClimbsNowhere}
 use Rattle.rules.proofs.Tests.{is_true, pick_ok}
 use Rattle.rules.proofs.Lists.{OnSome}
 

@@ -132,7 +132,7 @@ judged n (l ∷ ls) =
 
 data Outcome (source : List ℕ) (serial room : ℕ) : Answer → Type 0 where
   long : longest_source < length source → Outcome source serial room (answer Fault.SourceTooLong 0 0 0)
-  bad_line_lem :
+  bad_line :
       (k m : ℕ) → m ≡ suc k → length source ≤ longest_source → FirstBadOf (lines_of source) k
       → Outcome source serial room (answer (line_fault (get_or (lines_of source) k [])).fault m (line_fault (get_or (lines_of source) k [])).field 0)
   full : length source ≤ longest_source → T (all is_good (lines_of source)) → room < size_of_all (source_records serial source) → Outcome source serial room (answer Fault.NoRoom 0 0 (size_of_all (source_records serial source)))
@@ -146,7 +146,7 @@ module _ (source : List ℕ) (serial room : ℕ) where
   bad_outcome : (k m : ℕ) → m ≡ suc k → length source ≤ longest_source → FirstBadOf (lines_of source) k → (other : Answer)
       → Outcome source serial room (pick (is_done (line_fault (get_or (lines_of source) k [])).fault) other (answer (line_fault (get_or (lines_of source) k [])).fault m (line_fault (get_or (lines_of source) k [])).field 0))
   unfolding is_good
-  bad_outcome k m e s b other = subst (Outcome source serial room) (sym (pick_no _ _ _ b.0)) (bad_line_lem k m e s b)
+  bad_outcome k m e s b other = subst (Outcome source serial room) (sym (pick_no _ _ _ b.0)) (bad_line k m e s b)
 
   then_roomy : {a : Answer} → length source ≤ longest_source → Judged 1 (lines_of source) a
       → Outcome source serial room (pick (is_done a.fault) (if_room (size_of_all (source_records serial source)) room) a)
@@ -205,7 +205,7 @@ module _ (source : List ℕ) (serial room : ℕ) where
   unfolding Accepted FirstBad line_at bytes_needed answer
   exactly (long h) = record {
     too_long = λ g. refl;
-    bad_line_lem = λ k s b. absurd (omega arith);
+    bad_line = λ k s b. absurd (omega arith);
     no_room = λ g r. absurd (omega (arith, g.0));
     done = λ g r. absurd (omega (arith, g.0));
     only_too_long = λ q. h;
@@ -213,9 +213,9 @@ module _ (source : List ℕ) (serial room : ℕ) where
     only_no_room = λ q. absurd (full_long (sym q));
     only_done = λ q. absurd (done_long (sym q));
   }
-  exactly (bad_line_lem k m p s b) = record {
+  exactly (bad_line k m p s b) = record {
     too_long = λ g. absurd (omega arith);
-    bad_line_lem = λ j s' b'. rw (p, same_first (lines_of source) k j b b');
+    bad_line = λ j s' b'. rw (p, same_first (lines_of source) k j b b');
     no_room = λ g r. absurd (no_bad k g.1 b.0);
     done = λ g r. absurd (no_bad k g.1 b.0);
     only_too_long = λ q. absurd (line_not_long _ (line_line (get_or (lines_of source) k [])) q);
@@ -225,7 +225,7 @@ module _ (source : List ℕ) (serial room : ℕ) where
   }
   exactly (full s g r) = record {
     too_long = λ h. absurd (omega arith);
-    bad_line_lem = λ k s' b. absurd (no_bad k g b.0);
+    bad_line = λ k s' b. absurd (no_bad k g b.0);
     no_room = λ h r'. refl;
     done = λ h r'. absurd (omega arith);
     only_too_long = λ q. absurd (full_long q);
@@ -235,7 +235,7 @@ module _ (source : List ℕ) (serial room : ℕ) where
   }
   exactly (fits s g r) = record {
     too_long = λ h. absurd (omega arith);
-    bad_line_lem = λ k s' b. absurd (no_bad k g b.0);
+    bad_line = λ k s' b. absurd (no_bad k g b.0);
     no_room = λ h r'. absurd (omega arith);
     done = λ h r'. refl;
     only_too_long = λ q. absurd (done_long q);

@@ -7,16 +7,16 @@ use mathlib.Core.Option.{Option, some}
 use lib.ListN.{length}
 use lib.Dec.{T, eqb}
 use Rattle.rules.specs.declared.quantities.Shared.{Shared}
-use Rattle.rules.specs.Lists.{pick, keep, join_all, same_bytes}
+use Rattle.rules.specs.Lists.{keep, join_all, same_bytes}
 use Rattle.rules.specs.Kinds.{lines_of, strip}
 use Rattle.rules.specs.Records.{Record, location, resource, lo_bytes}
 use Rattle.rules.specs.Answers.{stripped_records, line_records, source_records}
 use Rattle.rules.specs.Questions.{Best, better, best_of, location_of, in_time, visible}
-use Rattle.rules.specs.Towns.{stripped_lines, is_location_line, shared_in, has_lo_of, location_lines, lines_for, location_in, SameFor, TheseLinesAreAll, TheLocationIsEnough, OtherTownsAreUnseen, OtherTownsAreUnasked}
+use Rattle.rules.specs.Towns.{stripped_lines, is_location_line, shared_in, has_lo_of, location_lines, lines_for, location_in, TheseLinesAreAll, TheLocationIsEnough, OtherTownsAreUnseen, OtherTownsAreUnasked}
 use Rattle.rules.proofs.Tests.{pick_ok, pick_no}
 use Rattle.rules.proofs.Lists.{All, nil, cons, all_weaken, keep_append}
 use Rattle.rules.proofs.Meaning.{source_ok, written}
-use Rattle.rules.proofs.Carried.{Carries, carries, Located, located, Says, nothing, place, shares, stripped_says}
+use Rattle.rules.proofs.Carried.{Carries, carries, Located, Says, nothing, place, shares, stripped_says}
 use Rattle.rules.proofs.Alike.{same_by_seen, asked_alike}
 
 -- ---- the client's location: the `%` lines alone

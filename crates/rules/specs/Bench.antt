@@ -1,5 +1,5 @@
--- 01, Bench examples: B1 to B12 as one table under one statement, `bench-holds`; B10, B11 and B12 with the `.` lines of 02's W8.
-use Rattle.std.specs.Prelude.{ℕ, ◌+◌, ◌-◌, ◌*◌, ◌≡◌, List, [], ◌∷◌, ◌++◌, map, length, take, drop, replicate}
+-- 01, Bench examples: B1 to B12 as one table under one statement, `bench_holds`; B10, B11 and B12 with the `.` lines of 02's W8.
+use Rattle.std.specs.Prelude.{ℕ, ◌+◌, ◌≡◌, List, [], ◌∷◌, ◌++◌, map, length, take, drop, replicate}
 use Prim.Native.String.{String}
 use Rattle.rules.specs.Texts.{bytes}
 use Rattle.rules.specs.Answers.{numbers_of, compile_answer, compile_output}

@@ -1,4 +1,4 @@
--- 02, W3: worked examples of comparisons, as a table under one statement, `comparing-examples-hold`.
+-- 02, W3: worked examples of comparisons, as a table under one statement, `comparing_examples_hold`.
 use Rattle.std.specs.Prelude.{ℕ, ◌≡◌, true, false, List, [], ◌∷◌, map}
 use Rattle.rules.specs.declared.comparisons.Compared.{Compared}
 use Rattle.rules.specs.Lists.{lower}

@@ -36,7 +36,7 @@ FirstBad source k = T (not (is_good (line_at source k))) × ((j : ℕ) → j < k
 -- the buffer".
 pub record RefusesExactly (source : List ℕ) (serial room : ℕ) (a : Answer) : Type 0 where
   pub too_long : longest_source < length source → a ≡ answer Fault.SourceTooLong 0 0 0
-  pub bad_line_lem :
+  pub bad_line :
       (k : ℕ) → length source ≤ longest_source → FirstBad source k
       → a ≡ answer (line_fault (line_at source k)).fault (suc k) (line_fault (line_at source k)).field 0
   pub no_room : Accepted source → room < bytes_needed serial source → a ≡ answer Fault.NoRoom 0 0 (bytes_needed serial source)

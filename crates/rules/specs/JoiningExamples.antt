@@ -1,4 +1,4 @@
--- 02, W7: worked examples of files joined, as tables under one statement, `joining-examples-hold`.
+-- 02, W7: worked examples of files joined, as tables under one statement, `joining_examples_hold`.
 use Rattle.std.specs.Prelude.{ℕ, ◌≡◌, Bool, true, false, List, [], ◌∷◌, ◌++◌, map}
 use Rattle.rules.specs.Lists.{join_all}
 use Rattle.rules.specs.Texts.{bytes}

@@ -1,5 +1,5 @@
 -- 01, Lines and fields: Name. A name's text and its form on the wire.
-use Rattle.std.specs.Prelude.{ℕ, zero, suc, ◌+◌, Bool, true, false, not, ◌&&◌, List, [], ◌∷◌, ◌++◌, length, leb, eqb}
+use Rattle.std.specs.Prelude.{ℕ, zero, suc, Bool, true, false, not, ◌&&◌, List, [], ◌∷◌, ◌++◌, length, leb, eqb}
 use Rattle.rules.specs.declared.faults.NameFault.{NameFault}
 use Rattle.rules.specs.declared.faults.NameFault.TheVariants.{EmptyLabel, LabelTooLong, NameTooLong, ByteNotAllowed}
 use Rattle.rules.specs.Lists.{pick, same_bytes}

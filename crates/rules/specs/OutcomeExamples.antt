@@ -1,4 +1,4 @@
--- 02, W8: worked examples of every outcome, as one table under one statement, `outcome-examples-hold`.
+-- 02, W8: worked examples of every outcome, as one table under one statement, `outcome_examples_hold`.
 use Rattle.std.specs.Prelude.{ℕ, zero, suc, ◌≡◌, List, [], ◌∷◌, map, length, replicate}
 use Prim.Native.String.{String}
 use Rattle.rules.specs.Answers.{source_records}

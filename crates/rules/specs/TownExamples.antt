@@ -1,7 +1,6 @@
--- 02, W14: worked examples of towns, moments and names, as tables under one statement, `town-examples-hold`.
+-- 02, W14: worked examples of towns, moments and names, as tables under one statement, `town_examples_hold`.
 use Rattle.std.specs.Prelude.{ℕ, zero, suc, ◌+◌, ◌-◌, ◌≡◌, Bool, true, false, List, [], ◌∷◌, map, length, replicate}
 use Prim.Native.String.{String}
-use Rattle.rules.specs.declared.replies.Response.{Response}
 use Rattle.rules.specs.Texts.{bytes}
 use Rattle.rules.specs.Bytes.{bytes_of}
 use Rattle.rules.specs.Answers.{source_records}

@@ -1,6 +1,4 @@
 use Rattle.kinds.proofs.Stripping.{strip_laws}
-use Rattle.kinds.proofs.strips.stripped.Reads as reads
-use Rattle.kinds.proofs.strips.stripped.Lts as lts
 use Rattle.kinds.proofs.strips.stripped.Goals as goal
 
 pub loop-n-init : goal.loop-n-init

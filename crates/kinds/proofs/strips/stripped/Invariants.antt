@@ -1,8 +1,6 @@
 use Prim.Native.Nat.{◌≤◌}
 use lib.ListN.{length}
 use Rattle.kinds.proofs.Stripping.{Same}
-use Rattle.kinds.proofs.strips.stripped.Reads as reads
-use Rattle.kinds.proofs.strips.stripped.Lts as lts
 use Rattle.kinds.proofs.strips.stripped.Given as goal
 
 abbrev pub invariant-loop-n : goal.invariant-loop-n

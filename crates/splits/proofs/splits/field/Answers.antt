@@ -1,6 +1,4 @@
 use Rattle.splits.proofs.Splitting.{field_laws}
-use Rattle.splits.proofs.splits.field.Reads as reads
-use Rattle.splits.proofs.splits.field.Lts as lts
 use Rattle.splits.proofs.splits.field.Goals as goal
 
 -- src/splits.rt:48:16

@@ -1,6 +1,4 @@
 use Rattle.splits.proofs.Splitting.{parted_laws}
-use Rattle.splits.proofs.splits.part_at_colons.Reads as reads
-use Rattle.splits.proofs.splits.part_at_colons.Lts as lts
 use Rattle.splits.proofs.splits.part_at_colons.Goals as goal
 
 pub loop-i-init : goal.loop-i-init

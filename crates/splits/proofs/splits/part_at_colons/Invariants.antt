@@ -2,8 +2,6 @@ use mathlib.Core.Path.{◌≡◌}
 use Prim.Native.Nat.{◌-◌, ◌≤◌, ◌<◌}
 use lib.ListN.{length}
 use Rattle.splits.proofs.Splitting.{Going}
-use Rattle.splits.proofs.splits.part_at_colons.Reads as reads
-use Rattle.splits.proofs.splits.part_at_colons.Lts as lts
 use Rattle.splits.proofs.splits.part_at_colons.Given as goal
 
 abbrev pub invariant-loop-i : goal.invariant-loop-i
