@@ -7,12 +7,13 @@
 ghost use Rattle.std.specs.Prelude.{◌≤◌};
 
 use compiler::compile::compile;
-use console::arguments::argument;
+use console::arguments::{argument, argument_count};
 use files::files::read_file;
+use files::streams::STDOUT_FILENO;
 use hexadecimal::hex::print_hex;
-use libc::STDOUT_FILENO;
 use numbers::numbers::{NumberRead, number};
 use rules::faults::Answer;
+use std::rt::{Env, Files};
 
 fn print_after_space(n: u64) {
     io::write_all(STDOUT_FILENO, b" ");
@@ -27,7 +28,7 @@ fn print_answer(answer: Answer) {
     print_after_space(answer.bytes as u64);
 }
 
-fn compile_and_print(source: &[u8], out: &mut [u8]) {
+fn compile_and_print<R: Print>(rt: &R, source: &[u8], out: &mut [u8]) {
     let answer = compile(source, 1000, out);
     print_answer(answer);
     let fault = answer.fault;
@@ -43,14 +44,14 @@ fn compile_and_print(source: &[u8], out: &mut [u8]) {
         return;
     }
     io::write_all(STDOUT_FILENO, b" ");
-    print_hex(STDOUT_FILENO, &out[..len]);
+    let _ = print_hex(rt, &out[..len]);
 }
 
-fn print_file(path: &[u8], room: usize)
+fn print_file<R: Files + Print>(rt: &R, path: &[u8], room: usize)
     requires { room ≤ 65536 }
 {
     let mut source = io::large_buffer();
-    let read = read_file(path, &mut source);
+    let read = read_file(rt, path, &mut source);
     let whole = read.whole;
     let len = read.len;
     if !whole {
@@ -59,17 +60,17 @@ fn print_file(path: &[u8], room: usize)
     io::write_all(STDOUT_FILENO, path);
     print_after_space(room as u64);
     let mut out = io::large_buffer();
-    compile_and_print(&source[..len], &mut out[..room]);
+    compile_and_print(rt, &source[..len], &mut out[..room]);
     io::write_all(STDOUT_FILENO, b"\n");
 }
 
 // Argument i: the room, or a file that is compiled with the room there is.
-fn room_after(i: usize, room: usize) -> usize
+fn room_after<R: Env + Files + Print>(rt: &R, i: usize, room: usize) -> usize
     requires { room ≤ 65536 }
     ensures { result ≤ 65536 }
 {
     let mut text = io::buffer();
-    let given = argument(i, &mut text);
+    let given = argument(rt, i, &mut text);
     let whole = given.whole;
     let len = given.len;
     if !whole {
@@ -78,18 +79,18 @@ fn room_after(i: usize, room: usize) -> usize
     match number(&text[..len], 65536) {
         NumberRead::Good(value) => value as usize,
         NumberRead::Bad => {
-            print_file(&text[..len], room);
+            print_file(rt, &text[..len], room);
             room
         },
     }
 }
 
-fn main() {
-    let count = os::arg_count();
+fn main(rt: HostRuntime) {
+    let count = argument_count(&rt);
     let mut room: usize = 65536;
     let mut i: usize = 1;
     while i < count {
-        room = room_after(i, room);
+        room = room_after(&rt, i, room);
         i += 1;
     }
 }

@@ -2,7 +2,9 @@
 ghost use Rattle.files.specs.Fronts.{IsFront};
 
 use files::files::Front;
-use libc::STDERR_FILENO;
+use files::streams::STDERR_FILENO;
+use std::env::FillError;
+use std::rt::Env;
 
 // Says which argument is missing, or too long for the room.
 fn refuse_argument(i: usize, room: usize) {
@@ -14,16 +16,35 @@ fn refuse_argument(i: usize, room: usize) {
 }
 
 // Argument i, in the buffer that is lent; where it is missing or too long, standard error has the reason.
-pub fn argument(i: usize, buf: &mut [u8]) -> Front
+pub fn argument<R: Env>(rt: &R, i: usize, buf: &mut [u8]) -> Front
     ensures { IsFront buf.new result }
 {
-    let len = os::arg(i, buf);
-    if os::errno() != 0 {
-        refuse_argument(i, buf.len());
-        return Front {
-            whole: false,
-            len: 0,
-        };
+    match rt.arg(i, buf) {
+        Ok(len) => Front { whole: true, len },
+        Err(_) => {
+            refuse_argument(i, buf.len());
+            Front {
+                whole: false,
+                len: 0,
+            }
+        },
     }
-    Front { whole: true, len }
+}
+
+// Whether there is an argument i. No room is lent for it, so one that is too long for none is there all the same.
+fn is_there<R: Env>(rt: &R, i: usize) -> bool {
+    match rt.arg(i, &mut [0u8; 0]) {
+        Err(FillError::NotPresent) => false,
+        _ => true,
+    }
+}
+
+// How many arguments the program was started with, its own name among them.
+pub fn argument_count<R: Env>(rt: &R) -> usize {
+    for i in 0..usize::MAX {
+        if !is_there(rt, i) {
+            return i;
+        }
+    }
+    usize::MAX
 }

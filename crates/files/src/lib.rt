@@ -3,3 +3,5 @@
 #![tactic(auto)]
 
 pub mod files;
+pub mod reasons;
+pub mod streams;

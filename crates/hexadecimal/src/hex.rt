@@ -3,6 +3,8 @@ ghost use Rattle.std.specs.Prelude.{◌≡◌, ◌/◌, ◌%◌, ◌<◌, ◌≤
 ghost use Rattle.io.specs.Digits.{hex_digit_ascii};
 ghost use Rattle.hexadecimal.specs.Hex.{IsHexText};
 
+use std::io::Error;
+
 // The first len digits.
 #[derive(Clone, Copy)]
 pub struct HexText {
@@ -53,22 +55,20 @@ fn hex_text(bytes: &[u8]) -> HexText
 }
 
 // Writes the digits of the first 256 bytes.
-fn print_some(fd: i32, bytes: &[u8]) -> bool {
+fn print_some<P: Print>(out: &P, bytes: &[u8]) -> Result<(), Error> {
     let text = hex_text(bytes);
     let digits = text.digits;
     let len = text.len;
-    io::write_all(fd, &digits[..len])
+    out.write_all(&digits[..len])
 }
 
-// Writes the digits of all bytes, with no line end; whether all were written.
-pub fn print_hex(fd: i32, bytes: &[u8]) -> bool {
+// Writes the digits of all bytes, with no line end.
+pub fn print_hex<P: Print>(out: &P, bytes: &[u8]) -> Result<(), Error> {
     let n = bytes.len();
     let mut at: usize = 0;
     while at < n {
-        if !print_some(fd, &bytes[at..]) {
-            return false;
-        }
+        print_some(out, &bytes[at..])?;
         at += 256;
     }
-    true
+    Ok(())
 }

@@ -7,14 +7,15 @@
 use compiler::compile::compile;
 use console::arguments::argument;
 use files::files::read_file;
+use files::streams::STDOUT_FILENO;
 use held::nth;
-use libc::STDOUT_FILENO;
 use places::Found;
 use refusals::faults::number;
 use refusals::replies::{outcome_number, reply_number};
 use rules::quantities::Moment;
 use rules::replies::{Reply, Response};
 use serving::compile_and_ask;
+use std::rt::Files;
 use vahmizar::served::Served;
 
 fn print_number(n: u64) {
@@ -127,9 +128,9 @@ fn ask_all(source: &[u8], out: &mut [u8]) {
     }
 }
 
-fn list_file(path: &[u8]) {
+fn list_file<R: Files>(rt: &R, path: &[u8]) {
     let mut source = io::large_buffer();
-    let read = read_file(path, &mut source);
+    let read = read_file(rt, path, &mut source);
     let whole = read.whole;
     let len = read.len;
     if !whole {
@@ -140,12 +141,12 @@ fn list_file(path: &[u8]) {
     ask_all(&source[..len], &mut out);
 }
 
-fn main() {
+fn main(rt: HostRuntime) {
     let mut path = io::buffer();
-    let given = argument(1, &mut path);
+    let given = argument(&rt, 1, &mut path);
     let whole = given.whole;
     let len = given.len;
     if whole {
-        list_file(&path[..len]);
+        list_file(&rt, &path[..len]);
     }
 }

@@ -37,11 +37,11 @@ fn compile_into(source: &[u8], serial: u32, out: &mut [u8]) -> Compiled
 
 // The file of this path compiled into the buffer that is lent, where it has at most 65,536 bytes. Where it can't be read or is refused,
 // standard error has the reason.
-pub fn compile_file(path: &[u8], serial: u32, out: &mut [u8]) -> Front
+pub fn compile_file(rt: &HostRuntime, path: &[u8], serial: u32, out: &mut [u8]) -> Front
     ensures { IsFront out.new result }
 {
     let mut source = io::large_buffer();
-    let read = read_file(path, &mut source);
+    let read = read_file(rt, path, &mut source);
     let whole = read.whole;
     let len = read.len;
     if !whole {
@@ -55,7 +55,7 @@ pub fn compile_file(path: &[u8], serial: u32, out: &mut [u8]) -> Front
     let done = front.whole;
     if !done {
         let answer = compiled.answer;
-        refuse_source(path, answer);
+        refuse_source(rt, path, answer);
     }
     front
 }

@@ -12,64 +12,66 @@ mod serials;
 mod words;
 
 use compiled::compile_file;
-use console::arguments::argument;
+use console::arguments::{argument, argument_count};
 use files::files::read_file;
-use libc::STDERR_FILENO;
+use files::reasons::fail;
+use files::streams::STDERR_FILENO;
 use pieces::pieces::piece_end;
 use print::print_answers;
 use room::records_buffer;
 use serials::{SerialRead, serial};
 
 // Each line of the questions, until standard output takes no more.
-fn ask_lines(records: &[u8], path: &[u8], text: &[u8]) {
+fn ask_lines(rt: &HostRuntime, records: &[u8], path: &[u8], text: &[u8]) {
     let n = text.len();
     let mut number: usize = 0;
     let mut at: usize = 0;
     while at < n {
         let end = at + piece_end(&text[at..], 0, 10);
         number += 1;
-        if !print_answers(records, path, number as u64, &text[at..end]) {
-            os::fail(b"standard output");
+        let printed = print_answers(rt, records, path, number as u64, &text[at..end]);
+        if let Err(error) = printed {
+            fail(b"standard output", error);
             return;
         }
         at = end + 1;
     }
 }
 
-fn ask_file(records: &[u8]) {
+fn ask_file(rt: &HostRuntime, records: &[u8]) {
     let mut path = io::buffer();
-    let given = argument(2, &mut path);
+    let given = argument(rt, 2, &mut path);
     let whole = given.whole;
     let size = given.len;
     if !whole {
         return;
     }
     let mut text = io::large_buffer();
-    let read = read_file(&path[..size], &mut text);
+    let read = read_file(rt, &path[..size], &mut text);
     let readable = read.whole;
     let len = read.len;
     if readable {
-        ask_lines(records, &path[..size], &text[..len]);
+        ask_lines(rt, records, &path[..size], &text[..len]);
     }
 }
 
-fn compile_and_ask(path: &[u8], serial: u32) {
+fn compile_and_ask(rt: &HostRuntime, path: &[u8], serial: u32) {
     let mut records = records_buffer();
-    let compiled = compile_file(path, serial, &mut records);
+    let compiled = compile_file(rt, path, serial, &mut records);
     let whole = compiled.whole;
     let len = compiled.len;
     if whole {
-        ask_file(&records[..len]);
+        ask_file(rt, &records[..len]);
     }
 }
 
 // The third argument, or 0 where there is none.
-fn read_serial() -> SerialRead {
-    if os::arg_count() == 3 {
+fn read_serial(rt: &HostRuntime) -> SerialRead {
+    if argument_count(rt) == 3 {
         return SerialRead::Good(0);
     }
     let mut text = [0u8; 16];
-    let given = argument(3, &mut text);
+    let given = argument(rt, 3, &mut text);
     let whole = given.whole;
     let len = given.len;
     if !whole {
@@ -78,9 +80,9 @@ fn read_serial() -> SerialRead {
     serial(&text[..len])
 }
 
-fn with_serial(path: &[u8]) {
-    match read_serial() {
-        SerialRead::Good(value) => compile_and_ask(path, value),
+fn with_serial(rt: &HostRuntime, path: &[u8]) {
+    match read_serial(rt) {
+        SerialRead::Good(value) => compile_and_ask(rt, path, value),
         SerialRead::Bad => {},
     }
 }
@@ -92,16 +94,16 @@ fn is_usage(count: usize) -> bool {
     count == 4
 }
 
-fn main() {
-    if !is_usage(os::arg_count()) {
+fn main(rt: HostRuntime) {
+    if !is_usage(argument_count(&rt)) {
         io::write_all(STDERR_FILENO, b"usage: lookup DATA QUESTIONS [SERIAL]\n");
         return;
     }
     let mut path = io::buffer();
-    let given = argument(1, &mut path);
+    let given = argument(&rt, 1, &mut path);
     let whole = given.whole;
     let len = given.len;
     if whole {
-        with_serial(&path[..len]);
+        with_serial(&rt, &path[..len]);
     }
 }

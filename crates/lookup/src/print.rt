@@ -3,66 +3,71 @@ ghost use Rattle.std.specs.Prelude.{◌+◌, ◌≤◌, length};
 ghost use Rattle.questions.specs.Places.{Inside};
 
 use crate::words::print_words;
+use files::streams::STDERR_FILENO;
 use hexadecimal::hex::print_hex;
-use libc::{STDERR_FILENO, STDOUT_FILENO};
 use questions::questions::{LineReply, answer_line};
 use refusals::replies::reply_number;
 use rules::quantities::Ttl;
 use rules::replies::{Outcome, Reply, Response};
+use std::io::Error;
 
-// What came of printing a record: more may follow, or none can, or standard output didn't take all.
+// What came of printing a record: more may follow, or none can, or standard output didn't take all, and why.
 #[derive(Clone, Copy)]
 enum Printed {
     More,
     Last,
-    Unwritten,
+    Unwritten(Error),
 }
 
-// Whether all was written.
-fn print_record(records: &[u8], rtype: u16, lifetime: Ttl, place: usize, size: usize) -> bool
+fn print_record<P: Print>(
+    out: &P,
+    records: &[u8],
+    rtype: u16,
+    lifetime: Ttl,
+    place: usize,
+    size: usize,
+) -> Result<(), Error>
     requires { place + size ≤ length records.now }
 {
     let end = place + size;
-    let a = io::write_all(STDOUT_FILENO, b"  ");
-    let b = io::print_decimal(STDOUT_FILENO, rtype as u64);
-    let c = io::write_all(STDOUT_FILENO, b" ");
-    let d = io::print_decimal(STDOUT_FILENO, lifetime.0 as u64);
-    let e = io::write_all(STDOUT_FILENO, b" ");
-    let f = print_hex(STDOUT_FILENO, &records[place..end]);
-    let g = io::write_all(STDOUT_FILENO, b"\n");
-    a & b & c & d & e & f & g
+    out.write_all(b"  ")?;
+    out.print(rtype)?;
+    out.write_all(b" ")?;
+    out.print(lifetime.0)?;
+    out.write_all(b" ")?;
+    print_hex(out, &records[place..end])?;
+    out.write_all(b"\n")
 }
 
-fn print_refusal(number: u64) -> bool {
-    let a = io::write_all(STDOUT_FILENO, b"  ");
-    let b = print_words(STDOUT_FILENO, number);
-    let c = io::write_all(STDOUT_FILENO, b"\n");
-    a & b & c
+fn print_refusal<P: Print>(out: &P, number: u64) -> Result<(), Error> {
+    out.write_all(b"  ")?;
+    print_words(out, number)?;
+    out.write_all(b"\n")
 }
 
 // The outcome stands once, above the first record. A refusal has none.
-fn print_outcome(outcome: Outcome, ordinal: u64) -> bool {
+fn print_outcome<P: Print>(out: &P, outcome: Outcome, ordinal: u64) -> Result<(), Error> {
     if 0 < ordinal {
-        return true;
+        return Ok(());
     }
     match outcome {
-        Outcome::Refused => true,
-        Outcome::NotOurs => io::write_all(STDOUT_FILENO, b"  not ours\n"),
-        Outcome::Referral => io::write_all(STDOUT_FILENO, b"  referral\n"),
-        Outcome::Records => io::write_all(STDOUT_FILENO, b"  records\n"),
-        Outcome::NoSuchType => io::write_all(STDOUT_FILENO, b"  no such type\n"),
-        Outcome::NoSuchName => io::write_all(STDOUT_FILENO, b"  no such name\n"),
+        Outcome::Refused => Ok(()),
+        Outcome::NotOurs => out.write_all(b"  not ours\n"),
+        Outcome::Referral => out.write_all(b"  referral\n"),
+        Outcome::Records => out.write_all(b"  records\n"),
+        Outcome::NoSuchType => out.write_all(b"  no such type\n"),
+        Outcome::NoSuchName => out.write_all(b"  no such name\n"),
     }
 }
 
-fn last(written: bool) -> Printed {
-    if written {
-        return Printed::Last;
+fn last(written: Result<(), Error>) -> Printed {
+    match written {
+        Ok(()) => Printed::Last,
+        Err(error) => Printed::Unwritten(error),
     }
-    Printed::Unwritten
 }
 
-fn print_reply(records: &[u8], reply: Reply) -> Printed
+fn print_reply<P: Print>(out: &P, records: &[u8], reply: Reply) -> Printed
     requires { Inside records.now reply }
 {
     match reply {
@@ -71,36 +76,33 @@ fn print_reply(records: &[u8], reply: Reply) -> Printed
             lifetime,
             place,
             length,
-        } => {
-            if print_record(records, rtype, lifetime, place, length) {
-                return Printed::More;
-            }
-            Printed::Unwritten
+        } => match print_record(out, records, rtype, lifetime, place, length) {
+            Ok(()) => Printed::More,
+            Err(error) => Printed::Unwritten(error),
         },
         Reply::NoMore => Printed::Last,
-        Reply::Refused(_) => last(print_refusal(reply_number(reply))),
+        Reply::Refused(_) => last(print_refusal(out, reply_number(reply))),
     }
 }
 
-fn print_response(records: &[u8], response: Response, ordinal: u64) -> Printed
+fn print_response<P: Print>(out: &P, records: &[u8], response: Response, ordinal: u64) -> Printed
     requires { Inside records.now response.reply }
 {
     let outcome = response.outcome;
     let reply = response.reply;
-    if !print_outcome(outcome, ordinal) {
-        return Printed::Unwritten;
+    match print_outcome(out, outcome, ordinal) {
+        Ok(()) => print_reply(out, records, reply),
+        Err(error) => Printed::Unwritten(error),
     }
-    print_reply(records, reply)
 }
 
 // The question stands once, above its outcome.
-fn print_question(line: &[u8], ordinal: u64) -> bool {
+fn print_question<P: Print>(out: &P, line: &[u8], ordinal: u64) -> Result<(), Error> {
     if ordinal == 0 {
-        let a = io::write_all(STDOUT_FILENO, line);
-        let b = io::write_all(STDOUT_FILENO, b"\n");
-        return a & b;
+        out.write_all(line)?;
+        return out.write_all(b"\n");
     }
-    true
+    Ok(())
 }
 
 fn refuse_line(path: &[u8], number: u64) {
@@ -114,13 +116,18 @@ fn refuse_line(path: &[u8], number: u64) {
 }
 
 // The record of this ordinal.
-fn print_answer(records: &[u8], path: &[u8], number: u64, line: &[u8], ordinal: u64) -> Printed {
+fn print_answer<P: Print>(
+    out: &P,
+    records: &[u8],
+    path: &[u8],
+    number: u64,
+    line: &[u8],
+    ordinal: u64,
+) -> Printed {
     match answer_line(records, line, ordinal) {
-        LineReply::Answered(response) => {
-            if !print_question(line, ordinal) {
-                return Printed::Unwritten;
-            }
-            print_response(records, response, ordinal)
+        LineReply::Answered(response) => match print_question(out, line, ordinal) {
+            Ok(()) => print_response(out, records, response, ordinal),
+            Err(error) => Printed::Unwritten(error),
         },
         LineReply::NoQuestion => {
             refuse_line(path, number);
@@ -129,21 +136,27 @@ fn print_answer(records: &[u8], path: &[u8], number: u64, line: &[u8], ordinal: 
     }
 }
 
-// Every ordinal of a question, from 0, until there are no more; whether all was written.
-pub fn print_answers(records: &[u8], path: &[u8], number: u64, line: &[u8]) -> bool {
+// Every ordinal of a question, from 0, until there are no more, or standard output takes no more.
+pub fn print_answers<P: Print>(
+    out: &P,
+    records: &[u8],
+    path: &[u8],
+    number: u64,
+    line: &[u8],
+) -> Result<(), Error> {
     let mut ordinal: u64 = 0;
     while ordinal < u64::MAX {
-        match print_answer(records, path, number, line, ordinal) {
+        match print_answer(out, records, path, number, line, ordinal) {
             Printed::More => {
                 ordinal += 1;
             },
             Printed::Last => {
-                return true;
+                return Ok(());
             },
-            Printed::Unwritten => {
-                return false;
+            Printed::Unwritten(error) => {
+                return Err(error);
             },
         }
     }
-    true
+    Ok(())
 }

@@ -3,7 +3,7 @@ ghost use Rattle.std.specs.Prelude.{◌≡◌};
 ghost use Rattle.rules.specs.Fields.{number_of, largest_long};
 ghost use Rattle.lookup.specs.Serials.{serial_read};
 
-use libc::STDERR_FILENO;
+use files::streams::STDERR_FILENO;
 use numbers::numbers::{NumberRead, number};
 
 #[derive(Clone, Copy)]

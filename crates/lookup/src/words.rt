@@ -1,6 +1,8 @@
 // The words of an answer's number.
 ghost use Rattle.std.specs.Prelude.{◌+◌, ◌≤◌};
 
+use std::io::Error;
+
 // A row of 24 bytes for each number from 0 to 18, and the last for any other; blanks fill a row.
 const WORDS: [u8; 480] = *b"\
     done                    \
@@ -40,24 +42,20 @@ fn words_end(start: usize) -> usize
     end
 }
 
-fn print_row(fd: i32, row: usize) -> bool
+fn print_row<P: Print>(out: &P, row: usize) -> Result<(), Error>
     requires { row ≤ 19 }
 {
     let start = 24 * row;
     let end = words_end(start);
-    io::write_all(fd, &WORDS[start..end])
+    out.write_all(&WORDS[start..end])
 }
 
-// Writes a number and its words; whether all was written.
-pub fn print_words(fd: i32, number: u64) -> bool {
-    if !io::print_decimal(fd, number) {
-        return false;
-    }
-    if !io::write_all(fd, b" ") {
-        return false;
-    }
+// Writes a number and its words.
+pub fn print_words<P: Print>(out: &P, number: u64) -> Result<(), Error> {
+    out.print(number)?;
+    out.write_all(b" ")?;
     if 18 < number {
-        return print_row(fd, 19);
+        return print_row(out, 19);
     }
-    print_row(fd, number as usize)
+    print_row(out, number as usize)
 }

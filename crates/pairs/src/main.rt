@@ -9,10 +9,11 @@ ghost use Rattle.files.specs.Fronts.{IsFront};
 
 use buffer::put::put_lowered;
 use comparing::compare;
-use console::arguments::argument;
+use console::arguments::{argument, argument_count};
 use digits::hex::hex_digit;
 use files::files::Front;
-use libc::{STDERR_FILENO, STDOUT_FILENO};
+use files::streams::{STDERR_FILENO, STDOUT_FILENO};
+use std::rt::Env;
 
 // The bytes that digits are, at the front of the room; whether all are digits, and fit. A last byte without its pair
 // counts for nothing.
@@ -87,11 +88,11 @@ fn compare_words(key_word: &[u8], name_word: &[u8]) {
 }
 
 // The key and the name that two arguments are.
-fn compare_arguments(key_at: usize, name_at: usize) {
+fn compare_arguments<R: Env>(rt: &R, key_at: usize, name_at: usize) {
     let mut key_word = io::buffer();
     let mut name_word = io::buffer();
-    let key = argument(key_at, &mut key_word);
-    let name = argument(name_at, &mut name_word);
+    let key = argument(rt, key_at, &mut key_word);
+    let name = argument(rt, name_at, &mut name_word);
     let key_len = key.len;
     let name_len = name.len;
     io::write_all(STDOUT_FILENO, &key_word[..key_len]);
@@ -100,15 +101,15 @@ fn compare_arguments(key_at: usize, name_at: usize) {
     compare_words(&key_word[..key_len], &name_word[..name_len]);
 }
 
-fn main() {
-    let count = os::arg_count();
+fn main(rt: HostRuntime) {
+    let count = argument_count(&rt);
     if count == 0 {
         return;
     }
     let last = count - 1;
     let mut i: usize = 1;
     while i < last {
-        compare_arguments(i, i + 1);
+        compare_arguments(&rt, i, i + 1);
         i += 2;
     }
     if i == last {

@@ -1,0 +1,11 @@
+use Rattle.hexadecimal.proofs.Digits.{digit_laws}
+use Rattle.hexadecimal.proofs.hex.hex_text.Goals as goal
+
+pub loop-i-init : goal.loop-i-init
+loop-i-init c = search digit_laws
+
+pub loop-i-preserved : goal.loop-i-preserved
+loop-i-preserved c = search digit_laws
+
+pub returns : goal.returns
+returns c = search digit_laws
