@@ -1,9 +1,6 @@
 #!/bin/sh
 # All checks of the Rust side. The library must have been built before, by
-# ./vahmizar or rt staticlib vahmizar, or be named by VAHMIZAR_LIB_DIR.
-#
-# gate.sh --first: only what needs no library, for which a second call then
-# finds the work done.
+# ./vahmizar or tools/build library, or be named by VAHMIZAR_LIB_DIR.
 set -eu
 cd "$(dirname -- "$0")"
 checks=$PWD/target/checks
@@ -30,10 +27,6 @@ tests() {
 
 cargo fmt --all --check
 cargo build --release --quiet --package copies --package reference
-if [ "${1:-}" = --first ]; then
-    check test --quiet --package reference --no-run
-    exit
-fi
 
 # Two lanes, one for each processor: the mistakes are tried beside the tests,
 # and each lane makes as much of the comparison as lets both end together.

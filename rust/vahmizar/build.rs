@@ -18,7 +18,7 @@ fn main() {
     println!("cargo::rerun-if-changed={}", library.display());
     if !library.is_file() {
         println!(
-            "cargo::error={} isn't there: run ./vahmizar or rt staticlib vahmizar first, \
+            "cargo::error={} isn't there: run ./vahmizar or tools/build library first, \
              or name its folder in {FOLDER_VARIABLE}",
             library.display()
         );

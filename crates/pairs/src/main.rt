@@ -1,4 +1,4 @@
-// pairs KEY NAME ..: compares each key with the name behind it, both in hexadecimal digits, as asking does: the name's
+// pairs KEY NAME ..: compares each key with the name behind it, both in hexadecimal digits, as a question's: the name's
 // letters are lowered, the key's are not. It prints both, whether they are the same, and how many byte pairs were read
 // to tell. The word - is no bytes.
 

@@ -8,7 +8,7 @@ ghost use Rattle.related.specs.Related.{related, Lengths};
 use comparing::compare;
 use wire::get::wide;
 
-// The lengths of a name and its ancestors: true at each. It is made once for a question, and tells with one look whether
+// The lengths of a name and its ancestors: true at each. It is to be made once for a question, and tells with one look whether
 // a key can be one of these names.
 pub fn lengths_of(name: &[u8]) -> [bool; 256]
     requires { length name.now ≤ 255 }

@@ -1,4 +1,5 @@
-// The calls that a name server makes. specs/Promises.antt says what each promises, and what both together do.
+// The calls that a name server makes. specs/Promises.antt says what each promises, and what both together do. Rattle crates call them here;
+// for C the crate vahmizar_c exports them.
 
 #![tactic(auto)]
 
@@ -14,13 +15,7 @@ use refusals::faults::number;
 use rules::quantities::Moment;
 
 // Compiles a source; the answer's numbers go into 32 lent bytes, and the first is returned.
-#[unsafe(no_mangle)]
-pub extern "C" fn tinydns_compile(
-    source: &[u8],
-    serial: u32,
-    out: &mut [u8],
-    answer: &mut [u8],
-) -> u64
+pub fn tinydns_compile(source: &[u8], serial: u32, out: &mut [u8], answer: &mut [u8]) -> u64
     ensures { Compiles source.now serial out.old answer.old out.new answer.new result }
 {
     if answer.len() != 32 {
@@ -40,8 +35,7 @@ pub extern "C" fn tinydns_compile(
 }
 
 // Asks for the record of an ordinal; the answer's numbers go into 48 lent bytes, the outcome last, and the first is returned.
-#[unsafe(no_mangle)]
-pub extern "C" fn tinydns_ask(
+pub fn tinydns_ask(
     records: &[u8],
     name: &[u8],
     qtype: u16,

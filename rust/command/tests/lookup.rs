@@ -11,7 +11,7 @@ use support::Folder;
 fn program() -> Option<PathBuf> {
     let path = Path::new(env!("CARGO_MANIFEST_DIR")).join("../../target/bin/lookup");
     let needed = std::env::var_os("LOOKUP_NEEDED").is_some();
-    assert!(path.exists() || !needed, "rt check lookup builds it");
+    assert!(path.exists() || !needed, "tools/build lookup builds it");
     path.exists().then_some(path)
 }
 
