@@ -1,22 +1,6 @@
 use Rattle.keys.proofs.Lowered.{lowered_laws}
 use Rattle.keys.proofs.is_lowered.Goals as goal
 
--- OLD part-is-lowered-part-start : tie.Need-slice-bounds-is-lowered-part-start invariant-loop decreases-loop
--- part-is-lowered-part-start c = search lowered_laws
---
-
--- OLD part-is-lowered-part-end : tie.Need-slice-bounds-is-lowered-part-end invariant-loop decreases-loop
--- part-is-lowered-part-end c = search lowered_laws
---
-
--- OLD part-is-lowered-part-start-2 : tie.Need-slice-bounds-is-lowered-part-start-2 invariant-loop decreases-loop
--- part-is-lowered-part-start-2 c = search lowered_laws
---
-
--- OLD part-is-lowered-part-end-2 : tie.Need-slice-bounds-is-lowered-part-end-2 invariant-loop decreases-loop
--- part-is-lowered-part-end-2 c = search lowered_laws
---
-
 pub is_lowered_part-requires : goal.is_lowered_part-requires
 is_lowered_part-requires c = search lowered_laws
 

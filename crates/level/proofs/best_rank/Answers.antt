@@ -1,4 +1,3 @@
-use mathlib.Core.Bool.{true}
 use Rattle.level.proofs.Bests.{most, best_laws}
 use Rattle.level.proofs.Bests.{best_laws}
 use Rattle.level.proofs.best_rank.Goals as goal

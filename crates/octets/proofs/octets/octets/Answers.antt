@@ -3,14 +3,6 @@ use Rattle.octets.proofs.Taken.{begin, bad, more}
 use Rattle.octets.proofs.Dotted.{one, octet_byte_lem, octets_laws}
 use Rattle.octets.proofs.octets.octets.Goals as goal
 
--- OLD part-octet-start : tie.Need-slice-bounds-octet-start invariant-loop decreases-loop
--- part-octet-start c = search octets_laws
---
-
--- OLD part-octet-end : tie.Need-slice-bounds-octet-end invariant-loop decreases-loop
--- part-octet-end c = search octets_laws
---
-
 pub loop-start-init : goal.loop-start-init
 loop-start-init c = search (begin octet octet_byte one 46, octets_laws)
 
