@@ -8,7 +8,7 @@ use lib.Dec.{T}
 use lib.ListN.{length}
 use Rattle.rules.specs.Lists.{split_on, has}
 use Rattle.rules.specs.Kinds.{common, meanings, field_count, field_at}
-use Rattle.rules.specs.Names.{named, name_of, wire_of}
+use Rattle.rules.specs.Names.{name_of, wire_of}
 use Rattle.rules.specs.Fields.{address_of, fault_of}
 use Rattle.rules.specs.Records.{ns, mx, srv, host_name, joined_names, address_in, shared_of}
 use Rattle.rules.specs.Answers.{is_done}

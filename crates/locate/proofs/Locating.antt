@@ -6,7 +6,7 @@ use mathlib.Core.Option.{Option, none, some}
 use Prim.Native.Nat.{ℕ, ◌-◌, ◌<◌, ◌≤◌}
 use native.Mathlib.Omega.{arith}
 use borrow.Author.Rules.{rules}
-use borrow.Author.Tests.{eq-eqb, ne_eqb, eqb-true, eqb-false}
+use borrow.Author.Tests.{eq-eqb, ne_eqb, eqb-true}
 use lib.ListN.{length, take, drop, drop_of_length-le}
 use lib.Dec.{eqb}
 use Rattle.rules.specs.declared.quantities.Lo.{Lo}
@@ -23,7 +23,7 @@ use Rattle.locate.specs.declared.Part.{Part}
 use Rattle.locate.specs.declared.Step.{Step}
 use Rattle.locate.specs.declared.Stop.{Stop}
 use Rattle.locate.specs.declared.Judged.{Judged}
-use Rattle.locate.specs.Covers.{Covers, Covered}
+use Rattle.locate.specs.Covers.{Covered}
 use Rattle.locate.specs.Grown.{grown_to}
 use Rattle.locate.specs.Locations.{located_in, located_from, best_seen, judged_lo}
 use Rattle.locate.specs.Reaches.{Passed, Plain}

@@ -25,7 +25,7 @@ use Rattle.locate.specs.declared.Stop.{Stop}
 use Rattle.locate.specs.Locations.{located_from}
 use Rattle.locate.specs.Reaches.{Plain}
 use Rattle.locate.specs.Steps.{malformed, located, seen, may_answer, may_control, related_step, step_seen, step_of}
-use Rattle.locate.specs.Stops.{IsStop, Stopped}
+use Rattle.locate.specs.Stops.{IsStop}
 use Rattle.locate.proofs.Covering.{Read, NoRank, located_rank, unended, no_answer, no_control}
 use Rattle.locate.proofs.Unranked.{one_more}
 

@@ -1,23 +1,21 @@
 -- What the passes find by numbers is the answer of the rules.
-use mathlib.Core.Path.{◌≡◌, refl, ap, ap₂, ◌∙◌, sym}
-use mathlib.Core.Bool.{Bool, true, false, not, ◌&&◌}
-use mathlib.Core.List.{List, [], ◌∷◌, map}
-use mathlib.Core.Option.{Option, none, some}
-use Prim.Native.Nat.{ℕ, zero, suc, ◌+◌, ◌<◌, ◌≤◌, max}
+use mathlib.Core.Path.{◌≡◌, refl, ap, ◌∙◌, sym}
+use mathlib.Core.Bool.{Bool, true, false, ◌&&◌}
+use mathlib.Core.List.{List, [], ◌∷◌}
+use Prim.Native.Nat.{ℕ, ◌+◌, ◌<◌, ◌≤◌, max}
 use native.Mathlib.Omega.{arith}
-use borrow.Author.Tests.{eq-eqb, ne_eqb, eqb-false}
-use lib.ListN.{length, take, drop, get_elem?}
+use borrow.Author.Tests.{ne_eqb, eqb-false}
+use lib.ListN.{get_elem?}
 use lib.Dec.{T, eqb, leb, leb→le}
 use Rattle.rules.specs.declared.replies.Outcome.{Outcome}
 use Rattle.rules.specs.declared.replies.Reply.{Reply}
-use Rattle.rules.specs.declared.replies.Response.{Response}
-use Rattle.rules.specs.Lists.{pick, keep, is_some, value_or}
+use Rattle.rules.specs.Lists.{pick, keep}
 use Rattle.rules.specs.Names.{is_wire}
 use Rattle.rules.specs.Records.{Record, location, resource}
 use Rattle.rules.specs.Bytes.{size}
 use Rattle.rules.specs.Questions.{Placed, placed_from, visible, ancestors, of_type, is_full, control_of, Result, by_level, in_zone, by_control}
 use Rattle.rules.specs.Reading.{reply_of, response_of}
-use Rattle.rules.proofs.Tests.{pick_ok, pick_ap}
+use Rattle.rules.proofs.Tests.{pick_ap}
 use Rattle.ranks.specs.Ranks.{rank_of, control_rank, role_rank, largest, seen_rank}
 use Rattle.ranks.specs.declared.Role.{Role}
 use Rattle.picks.specs.Picks.{wanted, picked_from}

@@ -19,7 +19,7 @@ use Rattle.rules.specs.Names.{is_wire}
 use Rattle.rules.specs.Records.{Record, lo_bytes}
 use Rattle.rules.specs.Bytes.{size}
 use Rattle.rules.specs.Questions.{Question, Placed, placed_from, location_of, answers}
-use Rattle.rules.specs.Reading.{moment_end, is_client, decode, refusal, response_of, response_from, response_decoded, ask_response}
+use Rattle.rules.specs.Reading.{moment_end, is_client, decode, refusal, response_from, response_decoded, ask_response}
 use Rattle.ranks.specs.declared.Role.{Role}
 use Rattle.locate.specs.declared.Judged.{Judged}
 use Rattle.locate.specs.Covers.{Covers, Covered}
