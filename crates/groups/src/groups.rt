@@ -7,6 +7,9 @@ use digits::hex::hex_digit;
 use numbers::numbers::NumberRead;
 use pieces::pieces::piece_end;
 
+// "1 to 4 hex digits"
+const MOST_DIGITS: usize = 4;
+
 fn group(text: &[u8]) -> NumberRead
     ensures { IsPiece group (hex_from 0) 65535 text.now result }
 {
@@ -14,7 +17,7 @@ fn group(text: &[u8]) -> NumberRead
     if n == 0 {
         return NumberRead::Bad;
     }
-    if 4 < n {
+    if MOST_DIGITS < n {
         return NumberRead::Bad;
     }
     let mut value: u64 = 0;

@@ -9,13 +9,18 @@ ghost use Rattle.keys.specs.Keys.{low_name};
 
 use wire::get::wide;
 
+// A name has at most 255 bytes on the wire, a label at most 63.
+const LONGEST_NAME: usize = 255;
+
+const LONGEST_LABEL: u64 = 63;
+
 // Whether bytes are a name on the wire. It goes from label to label up to the last byte, which is known by its place: to read it nothing has
 // to be read before.
 pub fn is_wire(name: &[u8]) -> bool
     ensures { result ≡ is_wire name.now }
 {
     let n = name.len();
-    if 255 < n {
+    if LONGEST_NAME < n {
         return false;
     }
     if n == 0 {
@@ -28,7 +33,7 @@ pub fn is_wire(name: &[u8]) -> bool
         if label == 0 {
             return false;
         }
-        if 63 < label {
+        if LONGEST_LABEL < label {
             return false;
         }
         i = i + 1 + label as usize;

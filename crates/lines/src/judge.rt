@@ -83,7 +83,8 @@ fn kind_fault(rest: &[u8], kind: Kind) -> LineFault
 pub fn line_fault(line: &[u8]) -> LineFault
     ensures { result ≡ line_fault line.now }
 {
-    if 1024 < line.len() {
+    let length = line.len();
+    if 1024 < length {
         return LineFault {
             fault: Fault::LineTooLong,
             field: 0,

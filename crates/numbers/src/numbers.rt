@@ -12,6 +12,9 @@ pub enum NumberRead {
 }
 
 // Ten digits need more than 32 bits.
+const MOST_DIGITS: usize = 10;
+
+// The number that a text says, where it is at most the limit.
 pub fn number(text: &[u8], limit: u64) -> NumberRead
     ensures { number_read result ≡ number_of limit text.now }
 {
@@ -19,7 +22,7 @@ pub fn number(text: &[u8], limit: u64) -> NumberRead
     if n == 0 {
         return NumberRead::Bad;
     }
-    if 10 < n {
+    if MOST_DIGITS < n {
         return NumberRead::Bad;
     }
     let mut value: u64 = 0;

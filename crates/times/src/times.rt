@@ -12,11 +12,15 @@ pub enum TimeRead {
     Bad,
 }
 
+// A time has just so many digits.
+const DIGITS: usize = 16;
+
+// The second that a text says.
 pub fn time(text: &[u8]) -> TimeRead
     ensures { time_read result ≡ time_of text.now }
 {
     let n = text.len();
-    if n != 16 {
+    if n != DIGITS {
         return TimeRead::Bad;
     }
     let mut value: u64 = 0;

@@ -5,8 +5,8 @@ use Rattle.groups.proofs.groups.group.Goals as goal
 pub returns-then-n-eq0 : goal.returns-then-n-eq0
 returns-then-n-eq0 c = not_good _ _ _ _ (empty _ c.if-n-eq0.true)
 
-pub returns-then-n-gt4 : goal.returns-then-n-gt4
-returns-then-n-gt4 c = not_good _ _ _ _ (long _ c.if-n-gt4.true)
+pub returns-then-n-gt-MOST_DIGITS : goal.returns-then-n-gt-MOST_DIGITS
+returns-then-n-gt-MOST_DIGITS c = not_good _ _ _ _ (long _ c.if-n-gt-MOST_DIGITS.true)
 
 pub loop-i-init : goal.loop-i-init
 loop-i-init c = search group_laws
@@ -22,15 +22,15 @@ hex_digit-d-requires c = search group_laws
 
 pub returns-then-d-ge16 : goal.returns-then-d-ge16
 returns-then-d-ge16 c =
-    not_good _ _ _ _ (bad_digit _ _ _ c.loop-i.invariant.2 _ _ c.lowered.ensures c.hex_digit-d.ensures c.loop-i-test.true c.if-n-eq0.false c.if-n-gt4.false c.if-d-ge16.true)
+    not_good _ _ _ _ (bad_digit _ _ _ c.loop-i.invariant.2 _ _ c.lowered.ensures c.hex_digit-d.ensures c.loop-i-test.true c.if-n-eq0.false c.if-n-gt-MOST_DIGITS.false c.if-d-ge16.true)
 
 pub overflow_mul-value : goal.overflow_mul-value
 overflow_mul-value c =
-    four_times _ _ _ c.loop-i.invariant.1 c.loop-i-test.true c.if-n-gt4.false
+    four_times _ _ _ c.loop-i.invariant.1 c.loop-i-test.true c.if-n-gt-MOST_DIGITS.false
 
 pub overflow_add-value : goal.overflow_add-value
 overflow_add-value c =
-    four_more _ _ _ _ c.loop-i.invariant.1 c.loop-i-test.true c.if-n-gt4.false c.if-d-ge16.false
+    four_more _ _ _ _ c.loop-i.invariant.1 c.loop-i-test.true c.if-n-gt-MOST_DIGITS.false c.if-d-ge16.false
 
 pub overflow_add-i : goal.overflow_add-i
 overflow_add-i c = search group_laws
@@ -43,4 +43,4 @@ loop-i-preserved c = search group_laws
 
 pub returns : goal.returns
 returns c =
-    good _ _ _ c.loop-i.invariant.2 c.if-n-eq0.false c.if-n-gt4.false c.loop-i-test.false c.loop-i.invariant.0 c.loop-i.invariant.1
+    good _ _ _ c.loop-i.invariant.2 c.if-n-eq0.false c.if-n-gt-MOST_DIGITS.false c.loop-i-test.false c.loop-i.invariant.0 c.loop-i.invariant.1

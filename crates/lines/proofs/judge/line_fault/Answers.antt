@@ -1,16 +1,16 @@
 use Rattle.lines.proofs.Judging.{too_long_lem, nothing_left, comment, of_kind}
 use Rattle.lines.proofs.judge.line_fault.Goals as goal
 
-pub returns-then-line-gt1024 : goal.returns-then-line-gt1024
-returns-then-line-gt1024 c = too_long_lem _ c.if-line-gt1024.true
+pub returns-then-length-gt1024 : goal.returns-then-length-gt1024
+returns-then-length-gt1024 c = too_long_lem _ c.if-length-gt1024.true
 
 pub returns-then-n-eq0 : goal.returns-then-n-eq0
-returns-then-n-eq0 c = nothing_left _ _ c.if-line-gt1024.false c.stripped-n.ensures c.if-n-eq0.true
+returns-then-n-eq0 c = nothing_left _ _ c.if-length-gt1024.false c.stripped-n.ensures c.if-n-eq0.true
 
 pub returns-then-is_ignored : goal.returns-then-is_ignored
 returns-then-is_ignored c =
-    comment _ _ c.if-line-gt1024.false c.stripped-n.ensures c.if-n-eq0.false _ c.is_ignored.ensures c.if-is_ignored.true
+    comment _ _ c.if-length-gt1024.false c.stripped-n.ensures c.if-n-eq0.false _ c.is_ignored.ensures c.if-is_ignored.true
 
 pub returns : goal.returns
 returns c =
-    of_kind _ _ c.if-line-gt1024.false c.stripped-n.ensures c.if-n-eq0.false _ _ _ c.is_ignored.ensures c.if-is_ignored.false c.kind_of.ensures c.kind_fault.ensures
+    of_kind _ _ c.if-length-gt1024.false c.stripped-n.ensures c.if-n-eq0.false _ _ _ c.is_ignored.ensures c.if-is_ignored.false c.kind_of.ensures c.kind_fault.ensures

@@ -4,8 +4,8 @@ use Rattle.numbers.proofs.numbers.number.Goals as goal
 pub returns-then-n-eq0 : goal.returns-then-n-eq0
 returns-then-n-eq0 c = search number_laws
 
-pub returns-then-n-gt10 : goal.returns-then-n-gt10
-returns-then-n-gt10 c = long _ _ c.if-n-gt10.true
+pub returns-then-n-gt-MOST_DIGITS : goal.returns-then-n-gt-MOST_DIGITS
+returns-then-n-gt-MOST_DIGITS c = long _ _ c.if-n-gt-MOST_DIGITS.true
 
 pub loop-i-init : goal.loop-i-init
 loop-i-init c = search number_laws
@@ -39,7 +39,7 @@ loop-i-preserved c = search number_laws
 
 pub returns-then-value-limit : goal.returns-then-value-limit
 returns-then-value-limit c =
-    good _ _ _ _ c.loop-i.invariant.2 c.if-n-eq0.false c.if-n-gt10.false c.loop-i-test.false c.if-value-limit.true
+    good _ _ _ _ c.loop-i.invariant.2 c.if-n-eq0.false c.if-n-gt-MOST_DIGITS.false c.loop-i-test.false c.if-value-limit.true
 
 pub returns-else-value-limit : goal.returns-else-value-limit
 returns-else-value-limit c = search number_laws

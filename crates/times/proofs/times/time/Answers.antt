@@ -1,8 +1,8 @@
 use Rattle.times.proofs.Time.{other_length_lem, time_laws}
 use Rattle.times.proofs.times.time.Goals as goal
 
-pub returns-then-n-ne16 : goal.returns-then-n-ne16
-returns-then-n-ne16 c = other_length_lem _ c.if-n-ne16.true
+pub returns-then-n-ne-DIGITS : goal.returns-then-n-ne-DIGITS
+returns-then-n-ne-DIGITS c = other_length_lem _ c.if-n-ne-DIGITS.true
 
 pub loop-i-init : goal.loop-i-init
 loop-i-init c = search time_laws
