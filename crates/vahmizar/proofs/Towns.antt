@@ -1,23 +1,19 @@
 -- Other towns, other names and other moments, over the calls.
-use mathlib.Core.Path.{◌≡◌, refl, sym, ap, ap₂, ◌∙◌, subst}
-use mathlib.Core.Bool.{Bool}
+use mathlib.Core.Path.{◌≡◌, refl, sym, ap, ap₂, ◌∙◌}
 use mathlib.Core.List.{List, [], ◌∷◌, ◌++◌}
-use mathlib.Core.Option.{Option}
-use Prim.Native.Nat.{ℕ, ◌+◌, ◌^◌, ◌≤◌, ◌<◌}
+use Prim.Native.Nat.{ℕ, ◌+◌, ◌≤◌}
 use native.Mathlib.Omega.{arith}
-use lib.ListN.{length, take, drop}
-use lib.Dec.{T}
+use lib.ListN.{take, drop}
 use Rattle.rules.specs.declared.replies.Outcome.{Outcome}
 use Rattle.rules.specs.declared.replies.Reply.{Reply}
 use Rattle.rules.specs.declared.replies.Response.{Response}
-use Rattle.rules.specs.Lists.{keep, join_all, le, from_le}
+use Rattle.rules.specs.Lists.{join_all, le, from_le}
 use Rattle.rules.specs.Records.{Record}
-use Rattle.rules.specs.Bytes.{bytes_of, size_of_all}
 use Rattle.rules.specs.Answers.{source_records}
-use Rattle.rules.specs.Questions.{Question, Placed}
+use Rattle.rules.specs.Questions.{Question}
 use Rattle.rules.specs.Reading.{reply_number, reply_values, outcome_number, response_numbers, ask_response}
 use Rattle.rules.specs.Demands.{Accepted, bytes_needed}
-use Rattle.rules.specs.Towns.{without_place, handed, SameResponse, AnswerAlike, OtherTownsAreUnasked}
+use Rattle.rules.specs.Towns.{without_place, handed, AnswerAlike, OtherTownsAreUnasked}
 use Rattle.rules.specs.Moments.{asked_at, without_lifetime, handed_out, SameButLifetime, BetweenTimesAskedAlike}
 use Rattle.rules.specs.Index.{TheseAloneAreAsked, AnIndexIsEnough}
 use Rattle.rules.proofs.Numbers.{from_le_lem}
@@ -29,7 +25,7 @@ use Rattle.rules.proofs.Moments.{between_times_asked_alike}
 use Rattle.rules.proofs.Index.{these_alone_are_asked, an_index_is_enough}
 use Rattle.vahmizar.specs.Promises.{laid}
 use Rattle.vahmizar.specs.Joining.{Call, wrote, Roomy}
-use Rattle.vahmizar.specs.Towns.{Asking, number_at, handed_by, EveryCallCounts, Agree, TheCallsHideOtherTowns, TheCallsNeedNoOtherNames, TheCallsTakeAnIndex, AgreeButLifetime, TheCallsChangeNothingBetweenTimes}
+use Rattle.vahmizar.specs.Towns.{Asking, number_at, EveryCallCounts, Agree, TheCallsHideOtherTowns, TheCallsNeedNoOtherNames, TheCallsTakeAnIndex, TheCallsChangeNothingBetweenTimes}
 use Rattle.vahmizar.proofs.Kept.{past}
 use Rattle.vahmizar.proofs.Joined.{writes, wrote_records}
 

@@ -5,11 +5,11 @@
 
 ghost use Rattle.vahmizar.specs.Promises.{Compiles, Asks};
 
-mod numbers;
+mod answer_bytes;
 pub mod served;
 
+use answer_bytes::{put_four, put_response};
 use compiler::compile::compile;
-use numbers::{put_four, put_response};
 use reader::ask;
 use refusals::faults::number;
 use rules::quantities::Moment;

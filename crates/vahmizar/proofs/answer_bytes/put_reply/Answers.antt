@@ -1,5 +1,5 @@
 use Rattle.vahmizar.proofs.Laid.{reply_laws}
-use Rattle.vahmizar.proofs.numbers.put_reply.Goals as goal
+use Rattle.vahmizar.proofs.answer_bytes.put_reply.Goals as goal
 
 pub returns-in-Found : goal.returns-in-Found
 returns-in-Found c = search reply_laws

@@ -1,5 +1,5 @@
 use Rattle.vahmizar.proofs.Laid.{response_laws}
-use Rattle.vahmizar.proofs.numbers.put_response.Goals as goal
+use Rattle.vahmizar.proofs.answer_bytes.put_response.Goals as goal
 
 pub returns : goal.returns
 returns c = search response_laws
