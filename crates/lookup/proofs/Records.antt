@@ -17,6 +17,7 @@ use Rattle.compiler.specs.Compiled.{IsCompiled}
 use Rattle.refusals.proofs.Numbers.{zero_done, other_refused}
 use Rattle.wire.proofs.Parts.{front_count}
 use Rattle.lookup.specs.Answers.{IsRecords, front_of}
+use Rattle.files.proofs.Fronts.{whole}
 
 -- a fault that is done and is not
 both : (b : Bool) → b ≡ true → b ≡ false → ⊥
@@ -60,10 +61,7 @@ module _ (s : List ℕ) (serial : ℕ) (out out' : List ℕ) (a : Answer) (n : �
         answer = e.answer;
         front = rw q;
         output = e.output;
-        is_front = record {
-          counts = (omega arith, front_count out' a.bytes (length out) l b);
-          whole_or_none = λ h. absurd (both true refl h);
-        };
+        is_front = whole out' a.bytes (omega arith, front_count out' a.bytes (length out) l b);
       }
 
 pub ruleset records_laws = (rules, refused, compiled)
