@@ -2,7 +2,7 @@
 use mathlib.Core.Path.{◌≡◌, refl, ap, ◌∙◌, sym}
 use mathlib.Core.Bool.{Bool, true, false, ◌&&◌, true≢false, and-true, and-false}
 use mathlib.Core.List.{List, [], ◌∷◌, map}
-use mathlib.Core.Option.{Option, none, some}
+use Rattle.std.specs.Prelude.{Option, Some, None}
 use Prim.Native.Nat.{ℕ, ◌*◌, ◌≤◌}
 use native.Mathlib.Omega.{arith}
 use borrow.Author.Rules.{rules}
@@ -20,7 +20,7 @@ use Rattle.addresses.specs.declared.addresses.AddressRead.{AddressRead}
 use Rattle.groups.specs.declared.groups.GroupsRead.{GroupsRead}
 use Rattle.octets.specs.declared.octets.OctetsRead.{OctetsRead}
 
-no_address : (x : Option (List ℕ)) (bytes : List ℕ) → none ≡ x → length bytes ≡ 16 → IsAddress x (record { bytes = bytes; len = 0 })
+no_address : (x : Option (List ℕ)) (bytes : List ℕ) → None ≡ x → length bytes ≡ 16 → IsAddress x (record { bytes = bytes; len = 0 })
 unfolding address_read pick
 no_address x bytes e l = record { says = e; sizes = λ a b. absurd (a refl); few = omega arith; long = l }
 
@@ -64,13 +64,13 @@ module _ (s : List ℕ) (o : OctetsRead) (e : IsOctets s o) where
       let g = counted o.good refl c in
       let n : length (split_on 46 s) ≡ 4 = sym (e.pieces g) ∙ c in
       record {
-        says = rw (four_front o.bytes b e.long (omega arith), n, (good_is g).0, (good_is g).1) (ap some (sym (take_all o.count o.bytes (omega (arith, e.long)))));
+        says = rw (four_front o.bytes b e.long (omega arith), n, (good_is g).0, (good_is g).1) (ap Some (sym (take_all o.count o.bytes (omega (arith, e.long)))));
         sizes = λ x y. absurd (y refl);
         few = omega arith;
         long = simp length-set l;
       }
 
-  not_four_by : (g : Bool) → o.good ≡ g → (o.count ≡ 4 → ⊥) → none ≡ dotted_address s
+  not_four_by : (g : Bool) → o.good ≡ g → (o.count ≡ 4 → ⊥) → None ≡ dotted_address s
   unfolding octets_read dotted_address address_if pick
   not_four_by true g c = rw (ne_eqb (length (split_on 46 s)) 4 (λ q. c (e.pieces g ∙ q)))
   not_four_by false g c =
@@ -92,7 +92,7 @@ module _ (s : List ℕ) (x : GroupsRead) (e : IsGroups s x) where
   unfolding groups_read address_read grouped_address pick
   sixteen b q g =
       let l : length b ≡ 16 = ap length q ∙ groups_length x.groups ∙ omega (arith, e.long) in
-      record { says = ap some (take_all 16 b (omega arith) ∙ q) ∙ rw g at e.says; sizes = λ u w. refl; few = omega arith; long = l }
+      record { says = ap Some (take_all 16 b (omega arith) ∙ q) ∙ rw g at e.says; sizes = λ u w. refl; few = omega arith; long = l }
 
   pub bad_groups : (b : List ℕ) → x.good ≡ false → length b ≡ 16 → IsAddress (grouped_address s) (record { bytes = b; len = 0 })
   unfolding groups_read grouped_address pick

@@ -1,6 +1,5 @@
 -- What the reader of an address promises.
-use Rattle.std.specs.Prelude.{◌≡◌, List, ℕ, ◌≤◌, eqb, length, take}
-use Rattle.std.proofs.Math.Option.{Option, none, some}
+use Rattle.std.specs.Prelude.{◌≡◌, List, ℕ, ◌≤◌, eqb, length, take, Option, Some, None}
 use Rattle.rules.specs.Lists.{pick, split_on}
 use Rattle.rules.specs.Fields.{octet, octet_byte, group, group_bytes, address_if}
 use Rattle.addresses.specs.declared.addresses.AddressRead.{AddressRead}
@@ -14,7 +13,7 @@ grouped_address text = address_if (eqb (length (split_on 95 text)) 8) group grou
 
 -- no address has no bytes
 unfoldable pub address_read : AddressRead → Option (List ℕ)
-address_read r = pick (eqb r.len 0) none (some (take r.len r.bytes))
+address_read r = pick (eqb r.len 0) None (Some (take r.len r.bytes))
 
 pub record IsAddress (value : Option (List ℕ)) (r : AddressRead) : Type 0 where
   pub says : address_read r ≡ value

@@ -2,7 +2,7 @@
 use mathlib.Core.Path.{◌≡◌, refl, ◌∙◌}
 use mathlib.Core.Bool.{Bool, true, false}
 use mathlib.Core.List.{List, [], ◌∷◌}
-use mathlib.Core.Option.{Option, none, some}
+use Rattle.std.specs.Prelude.{Option, Some, None}
 use Prim.Native.Nat.{ℕ}
 use native.Mathlib.Omega.{arith}
 use borrow.Author.Rules.{rules}
@@ -12,23 +12,23 @@ use Rattle.rules.specs.Fields.{letter, lo_of}
 use Rattle.rules.specs.declared.quantities.Lo.{Lo}
 
 module _ (a : ℕ) (r : Bool) (p : r ≡ letter a) where
-  pub one : r ≡ true → some (Lo.Code a 0) ≡ lo_of (a ∷ [])
+  pub one : r ≡ true → Some (Lo.Code a 0) ≡ lo_of (a ∷ [])
   unfolding lo_of pick
   one q = rw (← p, q)
 
-  pub one_bad : r ≡ false → none ≡ lo_of (a ∷ [])
+  pub one_bad : r ≡ false → None ≡ lo_of (a ∷ [])
   unfolding lo_of pick
   one_bad q = rw (← p, q)
 
-  pub first_bad : (b : ℕ) → r ≡ false → none ≡ lo_of (a ∷ b ∷ [])
+  pub first_bad : (b : ℕ) → r ≡ false → None ≡ lo_of (a ∷ b ∷ [])
   unfolding lo_of pick
   first_bad b q = rw (← p, q)
 
-  pub two : (b : ℕ) (t : Bool) → t ≡ letter b → r ≡ true → t ≡ true → some (Lo.Code a b) ≡ lo_of (a ∷ b ∷ [])
+  pub two : (b : ℕ) (t : Bool) → t ≡ letter b → r ≡ true → t ≡ true → Some (Lo.Code a b) ≡ lo_of (a ∷ b ∷ [])
   unfolding lo_of pick
   two b t u q w = rw (← p, q, ← u, w)
 
-  pub second_bad : (b : ℕ) (t : Bool) → t ≡ letter b → r ≡ true → t ≡ false → none ≡ lo_of (a ∷ b ∷ [])
+  pub second_bad : (b : ℕ) (t : Bool) → t ≡ letter b → r ≡ true → t ≡ false → None ≡ lo_of (a ∷ b ∷ [])
   unfolding lo_of pick
   second_bad b t u q w = rw (← p, q, ← u, w)
 
@@ -52,7 +52,7 @@ module _ (s : List ℕ) (r : Option Lo) where
       is (a ∷ b ∷ []) h = refl
       is (a ∷ b ∷ c ∷ t) h = absurd (omega arith)
 
-pub other_length_lem : (s : List ℕ) → (length s ≡ 1 → ⊥) → (length s ≡ 2 → ⊥) → none ≡ lo_of s
+pub other_length_lem : (s : List ℕ) → (length s ≡ 1 → ⊥) → (length s ≡ 2 → ⊥) → None ≡ lo_of s
 unfolding lo_of
 other_length_lem [] h k = refl
 other_length_lem (a ∷ []) h k = absurd (h refl)

@@ -2,7 +2,7 @@
 use mathlib.Core.Path.{◌≡◌, refl, ◌∙◌, sym}
 use mathlib.Core.Bool.{Bool, true, false, ◌&&◌}
 use mathlib.Core.List.{List, [], ◌∷◌}
-use mathlib.Core.Option.{Option, none, some}
+use Rattle.std.specs.Prelude.{Option, Some, None}
 use Prim.Native.Nat.{ℕ, ◌+◌, ◌-◌, ◌*◌, ◌<◌, ◌≤◌}
 use native.Mathlib.Omega.{arith}
 use borrow.Author.Rules.{rules}
@@ -19,8 +19,8 @@ use Rattle.escapes.specs.declared.texts.EscapeRead.{EscapeRead}
 
 -- a byte in front of a text, where there is one
 abbrev onto : Option ℕ → Option (List ℕ) → Option (List ℕ)
-onto none t = none
-onto (some b) t = onto_text b t
+onto None t = None
+onto (Some b) t = onto_text b t
 
 plain_text : (b : ℕ) (bs : List ℕ) → (b ≡ 92 → ⊥) → text_of (b ∷ bs) ≡ onto_text b (text_of bs)
 unfolding text_of onto_text pick
@@ -36,7 +36,7 @@ escaped_text b (c ∷ []) h = rw (eq-eqb b 92 h)
 escaped_text b (c ∷ d ∷ []) h = rw (eq-eqb b 92 h)
 escaped_text b (c ∷ d ∷ e ∷ bs) h = rw (eq-eqb b 92 h) (by_test (leb 48 c && leb c 51 && octal d && octal e))
   where
-    by_test : (t : Bool) → pick t (onto_text ((c - 48) * 64 + (d - 48) * 8 + (e - 48)) (text_of bs)) none ≡ onto (pick t (some ((c - 48) * 64 + (d - 48) * 8 + (e - 48))) none) (text_of bs)
+    by_test : (t : Bool) → pick t (onto_text ((c - 48) * 64 + (d - 48) * 8 + (e - 48)) (text_of bs)) None ≡ onto (pick t (Some ((c - 48) * 64 + (d - 48) * 8 + (e - 48))) None) (text_of bs)
     by_test true = refl
     by_test false = refl
 
@@ -50,11 +50,11 @@ module _ (s : List ℕ) (i : ℕ) (h : i < length s) where
       let p : i + 1 + 3 ≡ i + 4 = omega arith in
       rw (left_at s i h, ← p, ← drop-drop 3 (i + 1) s) (escaped_text (get_or s i 0) (drop (i + 1) s) q)
 
-cut_off_is : (s : List ℕ) (i : ℕ) → length s - i < 4 → escape_in (drop i s) ≡ none
+cut_off_is : (s : List ℕ) (i : ℕ) → length s - i < 4 → escape_in (drop i s) ≡ None
 unfolding escape_in
 cut_off_is s i h = short (drop i s) (simp length-drop h)
   where
-    short : (t : List ℕ) → length t < 4 → escape_in t ≡ none
+    short : (t : List ℕ) → length t < 4 → escape_in t ≡ None
     short [] h = refl
     short (b ∷ []) h = refl
     short (b ∷ c ∷ []) h = refl
@@ -134,17 +134,17 @@ module _ (s : List ℕ) (i : ℕ) (h : i < length s) where
 
 pub ruleset step_laws = (one_byte, four_bytes, no_bytes, rules)
 
-is_none : (v : Option ℕ) → is_some v ≡ false → v ≡ none
+is_none : (v : Option ℕ) → is_some v ≡ false → v ≡ None
 unfolding is_some
-is_none none h = refl
-is_none (some b) h = absurd (let z : ◌≡◌ {A = ℕ} 0 1 = cc in omega arith)
+is_none None h = refl
+is_none (Some b) h = absurd (let z : ◌≡◌ {A = ℕ} 0 1 = cc in omega arith)
 
 -- one byte of what a text stands for is at i, or the text is at fault there
 module _ (s : List ℕ) (i : ℕ) (h : i < length s) where
   escaped_item : (v : Option ℕ) (t : Option (List ℕ)) → is_some v ≡ true → onto v t ≡ onto_text (value_or 0 v) t
   unfolding is_some value_or
-  escaped_item none t e = absurd (let z : ◌≡◌ {A = ℕ} 0 1 = cc in omega arith)
-  escaped_item (some b) t e = refl
+  escaped_item None t e = absurd (let z : ◌≡◌ {A = ℕ} 0 1 = cc in omega arith)
+  escaped_item (Some b) t e = refl
 
   item_by : (u w : Bool) (r : ℕ) → eqb (get_or s i 0) 92 ≡ u → escapes_at s i ≡ w → r ≡ pick u (pick w 4 0) 1 → (r ≡ 0 → ⊥)
       → text_of (drop i s) ≡ onto_text (byte_at s i) (text_of (drop (i + r) s))
@@ -157,12 +157,12 @@ module _ (s : List ℕ) (i : ℕ) (h : i < length s) where
   unfolding step_at
   item r q z = item_by (eqb (get_or s i 0) 92) (escapes_at s i) r refl refl q z
 
-  fault_by : (u w : Bool) (r : ℕ) → eqb (get_or s i 0) 92 ≡ u → escapes_at s i ≡ w → r ≡ pick u (pick w 4 0) 1 → r ≡ 0 → text_of (drop i s) ≡ none
+  fault_by : (u w : Bool) (r : ℕ) → eqb (get_or s i 0) 92 ≡ u → escapes_at s i ≡ w → r ≡ pick u (pick w 4 0) 1 → r ≡ 0 → text_of (drop i s) ≡ None
   unfolding pick escapes_at
   fault_by false w r a b q z = absurd (omega arith)
   fault_by true true r a b q z = absurd (omega arith)
   fault_by true false r a b q z = escaped_at s i h (eqb-true _ _ a) ∙ rw (is_none (escape_in (drop i s)) b)
 
-  pub fault : (r : ℕ) → r ≡ step_at s i → r ≡ 0 → text_of (drop i s) ≡ none
+  pub fault : (r : ℕ) → r ≡ step_at s i → r ≡ 0 → text_of (drop i s) ≡ None
   unfolding step_at
   fault r q z = fault_by (eqb (get_or s i 0) 92) (escapes_at s i) r refl refl q z

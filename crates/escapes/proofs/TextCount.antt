@@ -1,7 +1,7 @@
 -- The laws of a text judged: how a turn of the loop counts one byte, and how each way out ends it.
 use mathlib.Core.Path.{◌≡◌, refl, ap, ◌∙◌, sym}
 use mathlib.Core.List.{List}
-use mathlib.Core.Option.{Option, none, some}
+use Rattle.std.specs.Prelude.{Option, Some, None}
 use Prim.Native.Nat.{ℕ, ◌+◌, ◌<◌, ◌≤◌}
 use native.Mathlib.Nat.{add-zero, zero-add}
 use native.Mathlib.Omega.{arith}
@@ -22,13 +22,13 @@ unfolding text_count
 begin s = record { says = from_none (text_of s) }
   where
     from_none : (t : Option (List ℕ)) → text_judged t ≡ text_count 0 t
-    from_none none = refl
-    from_none (some t) = ap TextJudged.Good (sym (zero-add (length t)))
+    from_none None = refl
+    from_none (Some t) = ap TextJudged.Good (sym (zero-add (length t)))
 
 more : (count b : ℕ) (t : Option (List ℕ)) → text_count count (onto_text b t) ≡ text_count (count + 1) t
 unfolding onto_text text_count
-more count b none = refl
-more count b (some t) = ap TextJudged.Good (omega arith)
+more count b None = refl
+more count b (Some t) = ap TextJudged.Good (omega arith)
 
 module _ (s : List ℕ) (count i : ℕ) (e : Counted s count i) where
   pub counted : (step : ℕ) → IsStep s i step → i < length s → (step ≡ 0 → ⊥) → Counted s (count + 1) (i + step)

@@ -2,7 +2,7 @@
 use mathlib.Core.Path.{◌≡◌, refl, ap, ◌∙◌, sym}
 use mathlib.Core.Bool.{true}
 use mathlib.Core.List.{List, [], ◌∷◌, ◌++◌, append-nil}
-use mathlib.Core.Option.{Option, none, some}
+use Rattle.std.specs.Prelude.{Option, Some, None}
 use Prim.Native.Nat.{ℕ, ◌+◌, ◌-◌, ◌<◌, ◌≤◌}
 use native.Mathlib.Omega.{arith}
 use borrow.Author.Rules.{rules}
@@ -18,8 +18,8 @@ use Rattle.escapes.proofs.Escape.{item, fault}
 
 -- a text with these bytes in front
 abbrev pub behind : List ℕ → Option (List ℕ) → Option (List ℕ)
-behind x none = none
-behind x (some t) = some (x ++ t)
+behind x None = None
+behind x (Some t) = Some (x ++ t)
 
 -- the text's first bytes stand at the buffer's front, and what is left at i is behind them
 pub record TextPut (s d out : List ℕ) (used i : ℕ) : Type 0 where
@@ -30,24 +30,24 @@ pub begin : (s d : List ℕ) → TextPut s d d 0 0
 begin s d = record { going = whole (text_of s); rest = refl }
   where
     whole : (t : Option (List ℕ)) → t ≡ behind [] t
-    whole none = refl
-    whole (some t) = refl
+    whole None = refl
+    whole (Some t) = refl
 
 -- one byte moves from what is left to the front
 moved : (x : List ℕ) (b : ℕ) (t : Option (List ℕ)) → behind x (onto_text b t) ≡ behind (x ++ (b ∷ [])) t
 unfolding onto_text
-moved x b none = refl
-moved x b (some t) = ap some (sym (append_snoc x b t))
+moved x b None = refl
+moved x b (Some t) = ap Some (sym (append_snoc x b t))
 
-no_none : {A : Type 0} (t : Option (List ℕ)) → is_some t ≡ true → t ≡ none → A
+no_none : {A : Type 0} (t : Option (List ℕ)) → is_some t ≡ true → t ≡ None → A
 unfolding is_some
-no_none none n e = absurd (let z : ◌≡◌ {A = ℕ} 0 1 = cc in omega arith)
-no_none (some t) n e = absurd (let z : ◌≡◌ {A = ℕ} 0 1 = cc in omega arith)
+no_none None n e = absurd (let z : ◌≡◌ {A = ℕ} 0 1 = cc in omega arith)
+no_none (Some t) n e = absurd (let z : ◌≡◌ {A = ℕ} 0 1 = cc in omega arith)
 
 longer : (x : List ℕ) (b : ℕ) (t : Option (List ℕ)) → is_some (behind x (onto_text b t)) ≡ true → length x < length (value_or [] (behind x (onto_text b t)))
 unfolding onto_text is_some value_or
-longer x b none n = absurd (let z : ◌≡◌ {A = ℕ} 0 1 = cc in omega arith)
-longer x b (some t) n = simp length-append (omega arith)
+longer x b None n = absurd (let z : ◌≡◌ {A = ℕ} 0 1 = cc in omega arith)
+longer x b (Some t) n = simp length-append (omega arith)
 
 module _ (s d out : List ℕ) (used i : ℕ) (e : TextPut s d out used i) (n : is_some (text_of s) ≡ true) where
   -- a good text has a byte at each place before its end
@@ -86,7 +86,7 @@ module _ (s d out : List ℕ) (used i : ℕ) (e : TextPut s d out used i) (n : i
   pub end : length out ≡ length d → used ≤ length d → length s ≤ i → IsPut (value_or [] (text_of s)) d out used
   unfolding text_of value_or
   end k l h =
-      let q : text_of s ≡ some (take used out ++ []) = e.going ∙ rw (drop_of_length-le s h) in
+      let q : text_of s ≡ Some (take used out ++ []) = e.going ∙ rw (drop_of_length-le s h) in
       put_by (value_or [] (text_of s)) d out used k l (rw (q, append-nil)) e.rest
 
 pub ruleset put_laws = (begin, onward, room, more_room, put, end, rules)

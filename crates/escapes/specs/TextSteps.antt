@@ -1,20 +1,19 @@
 -- A text read by its places, as the code goes through it. proofs/Escape.antt shows that it is the rules' own reading.
-use Rattle.std.specs.Prelude.{ℕ, ◌+◌, ◌-◌, ◌*◌, ◌≤◌, ◌≡◌, Bool, ◌&&◌, List, [], ◌∷◌, leb, eqb, length, get_or, drop}
-use Rattle.std.proofs.Math.Option.{Option, none, some}
+use Rattle.std.specs.Prelude.{ℕ, ◌+◌, ◌-◌, ◌*◌, ◌≤◌, ◌≡◌, Bool, ◌&&◌, List, [], ◌∷◌, leb, eqb, length, get_or, drop, Option, Some, None}
 use Rattle.rules.specs.Lists.{pick, value_or, is_some}
 use Rattle.rules.specs.Fields.{octal}
 use Rattle.escapes.specs.declared.texts.TextJudged.{TextJudged}
 
 -- the byte that three octal digits stand for
 unfoldable pub escape_of : ℕ → ℕ → ℕ → Option ℕ
-escape_of c d e = pick (leb 48 c && leb c 51 && octal d && octal e) (some ((c - 48) * 64 + (d - 48) * 8 + (e - 48))) none
+escape_of c d e = pick (leb 48 c && leb c 51 && octal d && octal e) (Some ((c - 48) * 64 + (d - 48) * 8 + (e - 48))) None
 
 -- the escape at the front of a text, behind its backslash
 unfoldable pub escape_in : List ℕ → Option ℕ
-escape_in [] = none
-escape_in (b ∷ []) = none
-escape_in (b ∷ c ∷ []) = none
-escape_in (b ∷ c ∷ d ∷ []) = none
+escape_in [] = None
+escape_in (b ∷ []) = None
+escape_in (b ∷ c ∷ []) = None
+escape_in (b ∷ c ∷ d ∷ []) = None
 escape_in (b ∷ c ∷ d ∷ e ∷ t) = escape_of c d e
 
 -- an escape begins at place i of a text
@@ -34,5 +33,5 @@ pub record IsStep (text : List ℕ) (i r : ℕ) : Type 0 where
 
 -- a text's length behind so many bytes
 unfoldable pub text_count : ℕ → Option (List ℕ) → TextJudged
-text_count count none = TextJudged.Bad
-text_count count (some bytes) = TextJudged.Good (count + length bytes)
+text_count count None = TextJudged.Bad
+text_count count (Some bytes) = TextJudged.Good (count + length bytes)

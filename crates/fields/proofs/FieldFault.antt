@@ -2,7 +2,7 @@
 use mathlib.Core.Path.{◌≡◌, refl, sym}
 use mathlib.Core.Bool.{Bool, true, false}
 use mathlib.Core.List.{List, [], ◌∷◌}
-use mathlib.Core.Option.{Option, none, some}
+use Rattle.std.specs.Prelude.{Option, Some, None}
 use Prim.Native.Nat.{ℕ}
 use native.Mathlib.Omega.{arith}
 use borrow.Author.Rules.{rules}
@@ -42,13 +42,13 @@ misnamed_is (misnamed f i) r g n p q = refl
 
 pub text_good : (x : Option (List ℕ)) (kind : FieldKind) (r : TextJudged) (n : ℕ) → r ≡ text_judged x → r ≡ TextJudged.Good n → Fault.Done ≡ unless kind x
 unfolding unless
-text_good none kind r n p q = absurd (let z : ◌≡◌ {A = ℕ} 0 1 = cc in omega arith)
-text_good (some t) kind r n p q = refl
+text_good None kind r n p q = absurd (let z : ◌≡◌ {A = ℕ} 0 1 = cc in omega arith)
+text_good (Some t) kind r n p q = refl
 
 pub text_bad : (x : Option (List ℕ)) (kind : FieldKind) (r : TextJudged) → r ≡ text_judged x → r ≡ TextJudged.Bad → Fault.Malformed kind ≡ unless kind x
 unfolding unless
-text_bad none kind r p q = refl
-text_bad (some t) kind r p q = absurd (let z : ◌≡◌ {A = ℕ} 0 1 = cc in omega arith)
+text_bad None kind r p q = refl
+text_bad (Some t) kind r p q = absurd (let z : ◌≡◌ {A = ℕ} 0 1 = cc in omega arith)
 
 module _ (x : Option (List ℕ)) (kind : FieldKind) where
   module _ (r : AddressRead) (e : IsAddress x r) where

@@ -2,7 +2,7 @@
 use mathlib.Core.Path.{◌≡◌, refl, sym}
 use mathlib.Core.Bool.{Bool, true, false, and-true}
 use mathlib.Core.List.{List}
-use mathlib.Core.Option.{none, some}
+use Rattle.std.specs.Prelude.{Some, None}
 use Prim.Native.Nat.{ℕ, ◌<◌}
 use native.Mathlib.Omega.{arith}
 use borrow.Author.Rules.{rules}
@@ -28,17 +28,17 @@ group_bytes_lem t = refl
 pub group_fits : (t : List ℕ) (x : NumberRead) (v : ℕ) → IsPiece group (hex_from 0) 65535 t x → x ≡ NumberRead.Good v → Fits w16 v
 group_fits t x v q e = omega (arith, q.fits v e)
 
-pub refused : (s groups : List ℕ) → length groups ≡ 8 → address_if (eqb (length (split_on 95 s)) 8) group group_bytes (split_on 95 s) ≡ none
+pub refused : (s groups : List ℕ) → length groups ≡ 8 → address_if (eqb (length (split_on 95 s)) 8) group group_bytes (split_on 95 s) ≡ None
     → IsGroups s (record { groups = groups; good = false })
 unfolding groups_read pick
 refused s groups l e = record { says = sym e; long = l }
 
 module _ (s groups : List ℕ) (count start : ℕ) (e : Going group group_bytes (be 2) 95 s groups count start) where
-  pub too_many : (end : ℕ) → IsEnd 95 s start end → 7 < count → address_if (eqb (length (split_on 95 s)) 8) group group_bytes (split_on 95 s) ≡ none
+  pub too_many : (end : ℕ) → IsEnd 95 s start end → 7 < count → address_if (eqb (length (split_on 95 s)) 8) group group_bytes (split_on 95 s) ≡ None
   unfolding address_if pick
   too_many end p h = let m = one_more e (piece_at p) in rw (ne_eqb (length (split_on 95 s)) 8 (λ z. omega arith))
 
-  counted_by : length groups ≡ 8 → (t : Bool) → eqb count 8 ≡ t → pick t (some (groups_bytes groups)) none ≡ pick t (some (groups_bytes (take count groups))) none
+  counted_by : length groups ≡ 8 → (t : Bool) → eqb count 8 ≡ t → pick t (Some (groups_bytes groups)) None ≡ pick t (Some (groups_bytes (take count groups))) None
   unfolding pick
   counted_by l true q = let c = eqb-true count 8 q in rw (take_all count groups (omega arith))
   counted_by l false q = refl

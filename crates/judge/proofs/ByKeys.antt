@@ -2,7 +2,7 @@
 use mathlib.Core.Path.{◌≡◌, refl, ap, ◌∙◌, sym}
 use mathlib.Core.Bool.{Bool, true, false, ◌&&◌}
 use mathlib.Core.List.{List, [], ◌∷◌}
-use mathlib.Core.Option.{some}
+use Rattle.std.specs.Prelude.{Some}
 use Prim.Native.Nat.{ℕ, zero, suc, ◌+◌, ◌*◌, ◌<◌, ◌≤◌}
 use native.Mathlib.Omega.{arith}
 use borrow.Author.Rules.{rules}
@@ -82,7 +82,7 @@ module _ (key rdata : List ℕ) where
 
         pub coded : t ≡ true → seen_record key rdata (Seen.Location (Lo.Code (get_or rdata 0 0) (get_or rdata 1 0))) ≡ location_in (get_or key 1 0) (drop 2 key) rdata
         unfolding seen_record location_in pick lo_bytes
-        coded y = rw (eq-eqb _ _ mark, prefix_short, code_is, y) (ap (λ (lo : List ℕ). some (location (drop 2 key) lo)) (sym (bytes_of rdata l)))
+        coded y = rw (eq-eqb _ _ mark, prefix_short, code_is, y) (ap (λ (lo : List ℕ). Some (location (drop 2 key) lo)) (sym (bytes_of rdata l)))
 
         pub not_coded : t ≡ false → seen_record key rdata Seen.Broken ≡ location_in (get_or key 1 0) (drop 2 key) rdata
         unfolding seen_record location_in pick

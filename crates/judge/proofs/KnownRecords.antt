@@ -2,7 +2,7 @@
 use mathlib.Core.Path.{◌≡◌, refl, ap, ◌∙◌, sym}
 use mathlib.Core.Bool.{Bool, true, false, ◌&&◌, ◌||◌}
 use mathlib.Core.List.{List, [], ◌∷◌}
-use mathlib.Core.Option.{Option, none}
+use Rattle.std.specs.Prelude.{Option, None}
 use Prim.Native.Nat.{ℕ, ◌+◌, ◌*◌, ◌<◌, ◌≤◌}
 use native.Mathlib.Omega.{arith}
 use borrow.Author.Rules.{rules}
@@ -81,7 +81,7 @@ module _ (key rdata : List ℕ) (w : Bool) (type : ℕ) where
   flag_fixed Flag.Broken = no_fixed rdata
   flag_fixed (Flag.Whole lo at) = behind_fixed key rdata w type lo at
 
-some_of : (b : Bool) (o : Option Record) → is_some (pick b o none) ≡ true → pick b o none ≡ o
+some_of : (b : Bool) (o : Option Record) → is_some (pick b o None) ≡ true → pick b o None ≡ o
 unfolding pick is_some
 some_of true o k = refl
 some_of false o k = let z : ◌≡◌ {A = ℕ} 0 1 = cc in absurd (omega arith)
@@ -98,7 +98,7 @@ known key (t ∷ []) k = let z : ◌≡◌ {A = ℕ} 0 1 = cc in absurd (omega a
 known key (t ∷ u ∷ []) k = let z : ◌≡◌ {A = ℕ} 0 1 = cc in absurd (omega arith)
 known key (t ∷ u ∷ flag ∷ rest) k =
     let q : (0 * 256 + t) * 256 + u ≡ t * 256 + u = omega arith in
-    let m : by_flag key (t * 256 + u) flag rest ≡ pick (good_key (wildcard_flag flag) key) (on_flag key (t ∷ u ∷ flag ∷ rest) (wildcard_flag flag) (t * 256 + u) (flag_by flag (t ∷ u ∷ flag ∷ rest))) none
+    let m : by_flag key (t * 256 + u) flag rest ≡ pick (good_key (wildcard_flag flag) key) (on_flag key (t ∷ u ∷ flag ∷ rest) (wildcard_flag flag) (t * 256 + u) (flag_by flag (t ∷ u ∷ flag ∷ rest))) None
     = flag_means key (t ∷ u ∷ flag ∷ rest) (t * 256 + u) flag in
     let s : is_some (by_flag key (t * 256 + u) flag rest) ≡ true = rw q at k in
     let n : by_flag key (t * 256 + u) flag rest ≡ on_flag key (t ∷ u ∷ flag ∷ rest) (wildcard_flag flag) (t * 256 + u) (flag_by flag (t ∷ u ∷ flag ∷ rest))

@@ -2,7 +2,7 @@
 use mathlib.Core.Path.{◌≡◌, refl, ap, ◌∙◌, sym}
 use mathlib.Core.Bool.{Bool, true, false, not, ◌&&◌}
 use mathlib.Core.List.{List, [], ◌∷◌}
-use mathlib.Core.Option.{Option, none, some}
+use Rattle.std.specs.Prelude.{Option, Some, None}
 use Prim.Native.Nat.{ℕ, ◌+◌, ◌≤◌}
 use native.Mathlib.Omega.{arith}
 use borrow.Author.Rules.{rules}
@@ -49,7 +49,7 @@ module _ (key rdata : List ℕ) (w : Bool) (type : ℕ) where
       (go (leb 12 (length (drop at rdata)) && leb (from_be 0 (take 4 (drop at rdata))) largest_ttl && ltb (from_be 0 (take 8 (drop 4 (drop at rdata)))) moment_end))
     where
       go : (t : Bool) → seen_record key rdata (seen_with w type (at + 12) (pick t (Fields.Whole (record { ttl = record { 0 = from_be 0 (take 4 (drop at rdata)) }; time = record { 0 = from_be 0 (take 8 (drop 4 (drop at rdata))) }; lo = lo })) Fields.Broken))
-          ≡ pick t (some (resource (owner_of w key) type (lo_bytes lo) (from_be 0 (take 4 (drop at rdata))) (from_be 0 (take 8 (drop 4 (drop at rdata)))) (drop (at + 12) rdata))) none
+          ≡ pick t (Some (resource (owner_of w key) type (lo_bytes lo) (from_be 0 (take 4 (drop at rdata))) (from_be 0 (take 8 (drop 4 (drop at rdata)))) (drop (at + 12) rdata))) None
       go true = refl
       go false = refl
 
@@ -61,7 +61,7 @@ two_of (a ∷ b ∷ rest) h = refl
 
 -- the record that flag and lo, and what is behind them, give
 unfoldable pub on_flag : List ℕ → List ℕ → Bool → ℕ → Flag → Option Record
-on_flag key rdata w type Flag.Broken = none
+on_flag key rdata w type Flag.Broken = None
 on_flag key rdata w type (Flag.Whole lo at) = behind_lo (owner_of w key) type (lo_bytes lo) (drop at rdata)
 
 pub name_low : (key : List ℕ) (u : Bool) → u ≡ low_name key → not u ≡ false → low_name key ≡ true
@@ -73,27 +73,27 @@ module _ (key rdata : List ℕ) (type : ℕ) where
   lo_means w = go (is_lo (take 2 (drop 3 rdata))) refl
     where
       go : (t : Bool) → is_lo (take 2 (drop 3 rdata)) ≡ t
-          → on_flag key rdata w type (pick t (Flag.Whole (lo_in (drop 3 rdata)) 5) Flag.Broken) ≡ pick t (behind_lo (owner_of w key) type (take 2 (drop 3 rdata)) (drop 2 (drop 3 rdata))) none
+          → on_flag key rdata w type (pick t (Flag.Whole (lo_in (drop 3 rdata)) 5) Flag.Broken) ≡ pick t (behind_lo (owner_of w key) type (take 2 (drop 3 rdata)) (drop 2 (drop 3 rdata))) None
       go true h = unfold pick on_flag in rw (two_of (drop 3 rdata) h, drop-drop 2 3 rdata)
       go false h = unfold pick on_flag in refl
 
-  no_record_lem : (b : Bool) → pick {A = Option Record} b none none ≡ none
+  no_record_lem : (b : Bool) → pick {A = Option Record} b None None ≡ None
   unfolding pick
   no_record_lem true = refl
   no_record_lem false = refl
 
   -- the rules' reading by the flag: first the key, then lo, then the rest
-  pub flag_means : (flag : ℕ) → by_flag key type flag (drop 3 rdata) ≡ pick (good_key (wildcard_flag flag) key) (on_flag key rdata (wildcard_flag flag) type (flag_by flag rdata)) none
+  pub flag_means : (flag : ℕ) → by_flag key type flag (drop 3 rdata) ≡ pick (good_key (wildcard_flag flag) key) (on_flag key rdata (wildcard_flag flag) type (flag_by flag rdata)) None
   flag_means flag = equal (eqb flag 61) refl
     where
       Goal : ℕ → Type 0
-      Goal flag = by_flag key type flag (drop 3 rdata) ≡ pick (good_key (wildcard_flag flag) key) (on_flag key rdata (wildcard_flag flag) type (flag_by flag rdata)) none
+      Goal flag = by_flag key type flag (drop 3 rdata) ≡ pick (good_key (wildcard_flag flag) key) (on_flag key rdata (wildcard_flag flag) type (flag_by flag rdata)) None
 
       none_of : eqb flag 61 ≡ false → eqb flag 62 ≡ false → eqb flag 42 ≡ false → eqb flag 43 ≡ false → Goal flag
       none_of a b c d = unfold by_flag wildcard_flag flag_by pick on_flag in rw (a, b, c, d) (sym (no_record_lem (good_key false key)))
 
       plus : (t : Bool) → eqb flag 43 ≡ t → eqb flag 61 ≡ false → eqb flag 62 ≡ false → eqb flag 42 ≡ false → Goal flag
-      plus true q a b c = rw (eqb-true flag 43 q) (unfold by_flag wildcard_flag flag_by good_key pick in ap (λ (o : Option Record). pick (wildcard_key key) o none) (unfold owner_of pick in sym (lo_means true)))
+      plus true q a b c = rw (eqb-true flag 43 q) (unfold by_flag wildcard_flag flag_by good_key pick in ap (λ (o : Option Record). pick (wildcard_key key) o None) (unfold owner_of pick in sym (lo_means true)))
       plus false q a b c = none_of a b c q
 
       star : (t : Bool) → eqb flag 42 ≡ t → eqb flag 61 ≡ false → eqb flag 62 ≡ false → Goal flag
@@ -101,7 +101,7 @@ module _ (key rdata : List ℕ) (type : ℕ) where
       star false q a b = plus (eqb flag 43) refl a b q
 
       greater : (t : Bool) → eqb flag 62 ≡ t → eqb flag 61 ≡ false → Goal flag
-      greater true q a = rw (eqb-true flag 62 q) (unfold by_flag wildcard_flag flag_by good_key pick in ap (λ (o : Option Record). pick (ordinary_key key) o none) (unfold owner_of pick in sym (lo_means false)))
+      greater true q a = rw (eqb-true flag 62 q) (unfold by_flag wildcard_flag flag_by good_key pick in ap (λ (o : Option Record). pick (ordinary_key key) o None) (unfold owner_of pick in sym (lo_means false)))
       greater false q a = star (eqb flag 42) refl a q
 
       equal : (t : Bool) → eqb flag 61 ≡ t → Goal flag
@@ -114,7 +114,7 @@ module _ (key rdata : List ℕ) (type : ℕ) where
   name_bad u p m = sym (flag_means (get_or rdata 2 0) ∙ rw (good_is key (wildcard_flag (get_or rdata 2 0)), ← p, not-true u m))
 
   module _ (low : low_name key ≡ true) (w : Bool) (ew : w ≡ wildcard_flag (get_or rdata 2 0)) (t : Bool) (q : t ≡ fits_owner w key) where
-    flagged : by_flag key type (get_or rdata 2 0) (drop 3 rdata) ≡ pick t (on_flag key rdata w type (flag_in rdata)) none
+    flagged : by_flag key type (get_or rdata 2 0) (drop 3 rdata) ≡ pick t (on_flag key rdata w type (flag_in rdata)) None
     unfolding flag_in
     flagged = flag_means (get_or rdata 2 0) ∙ rw (← ew, good_is key w, low, ← q)
 

@@ -2,7 +2,7 @@
 use mathlib.Core.Path.{◌≡◌, refl, ap, ◌∙◌, sym}
 use mathlib.Core.Bool.{Bool, true, false, not, ◌&&◌}
 use mathlib.Core.List.{List, [], ◌∷◌}
-use mathlib.Core.Option.{some}
+use Rattle.std.specs.Prelude.{Some}
 use Prim.Native.Nat.{ℕ, zero, suc, ◌+◌, ◌≤◌}
 use native.Mathlib.Omega.{arith}
 use lib.ListN.{length, take, drop, length-append, length-map, length-drop}
@@ -93,7 +93,7 @@ shape (zero ∷ mark ∷ prefix) rdata =
     (λ t. tt)
 shape (suc b ∷ key) rdata = resource_shape (suc b ∷ key) rdata
 
-pub shaped : (key rdata : List ℕ) (r : Record) → record_in key rdata ≡ some r → Shape key rdata r
+pub shaped : (key rdata : List ℕ) (r : Record) → record_in key rdata ≡ Some r → Shape key rdata r
 shaped key rdata r e = rw e at (shape key rdata)
 
 pub is_false : (b : Bool) → T (not b) → b ≡ false
@@ -104,7 +104,7 @@ is_false false t = refl
 
 module _ (key rdata : List ℕ) (seen : Seen) (e : seen_record key rdata seen ≡ record_in key rdata)
     (w : Bool) (type : ℕ) (shared : Shared) (fixed : ℕ) (q : seen ≡ Seen.Resource w type shared fixed) where
-  pub is_resource : record_in key rdata ≡ some (resource (owner_of w key) type (lo_bytes shared.lo) shared.ttl.0 shared.time.0 (drop fixed rdata))
+  pub is_resource : record_in key rdata ≡ Some (resource (owner_of w key) type (lo_bytes shared.lo) shared.ttl.0 shared.time.0 (drop fixed rdata))
   unfolding seen_record
   is_resource = sym e ∙ ap (seen_record key rdata) q
 

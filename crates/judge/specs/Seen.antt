@@ -1,6 +1,5 @@
 -- What the code answers of one record, and the record that it means.
-use Rattle.std.specs.Prelude.{ℕ, ◌+◌, ◌*◌, Bool, true, false, ◌&&◌, ◌||◌, List, ◌∷◌, length, take, drop, get_or, leb, ltb, eqb}
-use Rattle.std.proofs.Math.Option.{Option, none, some}
+use Rattle.std.specs.Prelude.{ℕ, ◌+◌, ◌*◌, Bool, true, false, ◌&&◌, ◌||◌, List, ◌∷◌, length, take, drop, get_or, leb, ltb, eqb, Option, Some, None}
 use Rattle.rules.specs.declared.quantities.Lo.{Lo}
 use Rattle.rules.specs.Lists.{pick, from_be}
 use Rattle.rules.specs.Fields.{largest_ttl}
@@ -16,10 +15,10 @@ owner_of wild key = pick wild (1 ∷ 42 ∷ key) key
 
 -- the record that is meant: the prefix of a location stands behind two bytes of its key
 unfoldable pub seen_record : List ℕ → List ℕ → Seen → Option Record
-seen_record key rdata Seen.Broken = none
-seen_record key rdata (Seen.Location lo) = some (location (drop 2 key) (lo_bytes lo))
+seen_record key rdata Seen.Broken = None
+seen_record key rdata (Seen.Location lo) = Some (location (drop 2 key) (lo_bytes lo))
 seen_record key rdata (Seen.Resource wild type shared fixed) =
-    some (resource (owner_of wild key) type (lo_bytes shared.lo) shared.ttl.0 shared.time.0 (drop fixed rdata))
+    Some (resource (owner_of wild key) type (lo_bytes shared.lo) shared.ttl.0 shared.time.0 (drop fixed rdata))
 
 -- where the record data begin
 unfoldable pub fixed_in : Seen → ℕ

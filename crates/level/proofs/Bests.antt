@@ -2,7 +2,7 @@
 use mathlib.Core.Path.{◌≡◌, refl, ap, ◌∙◌, sym}
 use mathlib.Core.Bool.{Bool, true, false, not}
 use mathlib.Core.List.{List, [], ◌∷◌, map}
-use mathlib.Core.Option.{Option, none, some}
+use Rattle.std.specs.Prelude.{Option, Some, None}
 use Prim.Native.Nat.{ℕ, ◌-◌, ◌<◌, ◌≤◌, max}
 use native.Mathlib.Omega.{arith}
 use borrow.Author.Rules.{rules}
@@ -28,20 +28,20 @@ use Rattle.level.proofs.Controls.{most_role}
 
 record Onto (o : Option Record) (ds : Option (List Record)) : Type 0 where
   rec : Record
-  first : o ≡ some rec
+  first : o ≡ Some rec
   both : value_or [] (onto_records o ds) ≡ rec ∷ value_or [] ds
   rest : is_some ds ≡ true
 
 onto_some : (o : Option Record) (ds : Option (List Record)) → is_some (onto_records o ds) ≡ true → Onto o ds
 unfolding is_some onto_records value_or
-onto_some none ds e = let z : ◌≡◌ {A = ℕ} 0 1 = cc in absurd (omega arith)
-onto_some (some r) none e = let z : ◌≡◌ {A = ℕ} 0 1 = cc in absurd (omega arith)
-onto_some (some r) (some rs) e = record { rec = r; first = refl; both = refl; rest = refl }
+onto_some None ds e = let z : ◌≡◌ {A = ℕ} 0 1 = cc in absurd (omega arith)
+onto_some (Some r) None e = let z : ◌≡◌ {A = ℕ} 0 1 = cc in absurd (omega arith)
+onto_some (Some r) (Some rs) e = record { rec = r; first = refl; both = refl; rest = refl }
 
 -- its record, and the rest
 pub record Whole (stream : List ℕ) (at : ℕ) (span : Span) : Type 0 where
   pub rec : Record
-  pub read : record_in (take (span.middle - span.start) (drop span.start stream)) (take (span.next - span.middle) (drop span.middle stream)) ≡ some rec
+  pub read : record_in (take (span.middle - span.start) (drop span.start stream)) (take (span.next - span.middle) (drop span.middle stream)) ≡ Some rec
   pub more : value_or [] (decode (drop at stream)) ≡ rec ∷ value_or [] (decode (drop span.next stream))
   pub rest : is_some (decode (drop span.next stream)) ≡ true
 

@@ -5,7 +5,7 @@ use Prim.Native.Nat.{ℕ, suc, ◌<◌, ◌≤◌}
 use native.Mathlib.Omega.{arith}
 use mathlib.Core.Bool.{Bool, true, false, not, ◌&&◌}
 use mathlib.Core.List.{List, [], ◌∷◌, map}
-use mathlib.Core.Option.{Option, none, some}
+use Rattle.std.specs.Prelude.{Option, Some, None}
 use borrow.Author.Tests.{eq-eqb, ne_eqb}
 use lib.ListN.{length}
 use lib.Dec.{T, not_T, eqb, leb, leb→le}
@@ -56,8 +56,8 @@ control_below type n (a ∷ names) p d r =
 
 -- a control name, and its length
 data Controlled (names : List (List ℕ)) : Option (List ℕ) → ℕ → Type 0 where
-  nobody : {m : ℕ} → m ≡ 0 → Controlled names none m
-  ruled : {m : ℕ} (c : List ℕ) → In c names → m ≡ length c → Controlled names (some c) m
+  nobody : {m : ℕ} → m ≡ 0 → Controlled names None m
+  ruled : {m : ℕ} (c : List ℕ) → In c names → m ≡ length c → Controlled names (Some c) m
 
 zeros : (ps : List Placed) → largest (λ (p : Placed). 0) ps ≡ 0
 unfolding largest
@@ -83,7 +83,7 @@ control_is ps n (a ∷ names) d = by (keep t ps) refl (control_is ps (length a) 
     small p = control_below 2 (length a) names d.1 d.2 p.rec
 
     by : (ks : List Placed) → keep t ps ≡ ks → Controlled names (control_of ps names) (largest f ps)
-        → Controlled (a ∷ names) (pick (is_full (keep t ps)) (some a) (control_of ps names)) (largest (λ p. pick (t p) (length a) (f p)) ps)
+        → Controlled (a ∷ names) (pick (is_full (keep t ps)) (Some a) (control_of ps names)) (largest (λ p. pick (t p) (length a) (f p)) ps)
     by [] k ih = unfold pick is_full in rw k (further (none_kept t (length a) f small ps k).0 ih)
     by (q ∷ qs) k ih = unfold pick is_full in
         let is : largest (λ p. pick (t p) (length a) (f p)) ps ≡ length a = omega (arith, most t (length a) f small ps, some_kept t (length a) f small ps q qs k) in

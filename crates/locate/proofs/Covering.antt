@@ -2,7 +2,7 @@
 use mathlib.Core.Path.{◌≡◌, refl, ap, ◌∙◌, sym}
 use mathlib.Core.Bool.{Bool, true, false, not, ◌&&◌, ◌||◌}
 use mathlib.Core.List.{List, [], ◌∷◌, ◌++◌}
-use mathlib.Core.Option.{some}
+use Rattle.std.specs.Prelude.{Some}
 use Prim.Native.Nat.{ℕ, ◌-◌, ◌≤◌}
 use native.Mathlib.Omega.{arith}
 use borrow.Author.Tests.{eqb-false, ne_eqb}
@@ -34,16 +34,16 @@ module _ (name key rdata : List ℕ) where
   -- a record that isn't malformed
   pub record Read : Type 0 where
     pub rec : Record
-    pub is : record_in key rdata ≡ some rec
+    pub is : record_in key rdata ≡ Some rec
 
   -- its rank in a role is 0, for every client and moment
   abbrev pub NoRank : Role → Type 0
   NoRank role = (here : List ℕ) (moment : ℕ) → 0 ≡ rank_in role name here moment (record_in key rdata)
 
-  pub located_rank : (role : Role) (prefix lo : List ℕ) → record_in key rdata ≡ some (location prefix lo) → NoRank role
+  pub located_rank : (role : Role) (prefix lo : List ℕ) → record_in key rdata ≡ Some (location prefix lo) → NoRank role
   located_rank role prefix lo q here moment = rw q (unfold rank_in seen_rank visible pick in refl)
 
-  module _ (owner lo rd : List ℕ) (type ttl time : ℕ) (q : record_in key rdata ≡ some (resource owner type lo ttl time rd)) where
+  module _ (owner lo rd : List ℕ) (type ttl time : ℕ) (q : record_in key rdata ≡ Some (resource owner type lo ttl time rd)) where
     pub unended : (role : Role) → ends_in name key ≡ false → NoRank role
     unended role u here moment = unrelated role name here moment key rdata false (not_end name key u) refl
 
@@ -114,7 +114,7 @@ module _ (role : Role) (name stream : List ℕ) where
     abbrev rdata : List ℕ
     rdata = take (span.next - span.middle) (drop span.middle stream)
 
-    alone : (r : Record) → record_in key rdata ≡ some r → decode (drop at (take span.next stream)) ≡ some (r ∷ [])
+    alone : (r : Record) → record_in key rdata ≡ Some r → decode (drop at (take span.next stream)) ≡ Some (r ∷ [])
     alone r e = record_part stream at span i r (unfold part in e)
 
     -- no rank: what stands behind the part grows
@@ -178,7 +178,7 @@ module _ (role : Role) (name stream : List ℕ) where
 
   -- at the end
   module _ (from until at : ℕ) (p : Passed role name stream from until at) (l : at ≤ length stream) (h : length stream ≤ at) where
-    all_read : decode stream ≡ some (p.before ++ (p.between ++ p.behind))
+    all_read : decode stream ≡ Some (p.before ++ (p.between ++ p.behind))
     all_read =
         rw (take_all at stream h) at
         (parts_join stream 0 from at _ _ (omega arith) (omega (arith, p.ordered, p.reached)) l p.front

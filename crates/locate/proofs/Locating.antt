@@ -2,7 +2,7 @@
 use mathlib.Core.Path.{◌≡◌, refl, ap, ◌∙◌, sym}
 use mathlib.Core.Bool.{Bool, true, false}
 use mathlib.Core.List.{List}
-use mathlib.Core.Option.{Option, none, some}
+use Rattle.std.specs.Prelude.{Option, Some, None}
 use Prim.Native.Nat.{ℕ, ◌-◌, ◌<◌, ◌≤◌}
 use native.Mathlib.Omega.{arith}
 use borrow.Author.Rules.{rules}
@@ -46,8 +46,8 @@ unfolding best_seen
 from_start client stream = go (decode stream)
   where
     go : (o : Option (List Record)) → located_in client o ≡ located_from client (record { lo = lo_bytes Lo.Every; at_least = 0 }) o
-    go none = unfold located_from located_in in refl
-    go (some rs) = unfold located_from located_in location_of lo_bytes in refl
+    go None = unfold located_from located_in in refl
+    go (Some rs) = unfold located_from located_in location_of lo_bytes in refl
 
 pub at_first : (client name stream : List ℕ) → Going client name stream (record { lo = Lo.Every; least = 0 }) (record { from = 0; until = 0 }) (record { from = 0; until = 0 }) 0
 at_first client name stream = record {
@@ -60,10 +60,10 @@ at_first client name stream = record {
 
 -- a location
 step_better : (client : List ℕ) (best : Best) (prefix lo : List ℕ) (ds : Option (List Record))
-    → located_from client best (onto_records (some (location prefix lo)) ds) ≡ located_from client (better client best (location prefix lo)) ds
+    → located_from client best (onto_records (Some (location prefix lo)) ds) ≡ located_from client (better client best (location prefix lo)) ds
 unfolding located_from onto_records best_of
-step_better client best prefix lo none = refl
-step_better client best prefix lo (some rs) = refl
+step_better client best prefix lo None = refl
+step_better client best prefix lo (Some rs) = refl
 
 -- over records that are nothing to the pass
 module _ (client name stream : List ℕ) (best : Located) (level control : Part) (at : ℕ) (g : Going client name stream best level control at) (to : ℕ) (q : Plain name stream at to) where
@@ -111,7 +111,7 @@ module _ (client name stream : List ℕ) (best : Located) (level control : Part)
     unfolding part onto_records step_seen judged_lo located_from
     broken_at b = sym (g.located_there ∙ rw (i.says, step_none name key _ (is_step Step.Broken b)))
 
-    located_at : (lo : Lo) → r ≡ Step.Location lo → (record_in key rdata ≡ some (location (drop 2 key) (lo_bytes lo))) × (2 ≤ length key)
+    located_at : (lo : Lo) → r ≡ Step.Location lo → (record_in key rdata ≡ Some (location (drop 2 key) (lo_bytes lo))) × (2 ≤ length key)
     unfolding step_seen
     located_at lo b = is_location_lem name key rdata (lo_bytes lo) (is_step (Step.Location lo) b)
 

@@ -2,7 +2,7 @@
 use mathlib.Core.Path.{◌≡◌, ap, ◌∙◌, sym}
 use mathlib.Core.Bool.{Bool, true, false, not, and-true, and-false}
 use mathlib.Core.List.{List, [], ◌∷◌, map}
-use mathlib.Core.Option.{some}
+use Rattle.std.specs.Prelude.{Some}
 use Prim.Native.Nat.{ℕ, suc, ◌+◌, ◌*◌, ◌-◌, ◌<◌, ◌≤◌}
 use native.Mathlib.Omega.{arith}
 use native.Mathlib.Numerals.{add-one}
@@ -74,7 +74,7 @@ module _ (name key rdata : List ℕ) (seen : Seen) (e : seen_record key rdata se
   step_location found q = rw (← e, q)
 
   module _ (w : Bool) (type : ℕ) (shared : Shared) (fixed : ℕ) (q : seen ≡ Seen.Resource w type shared fixed) (t : Bool) (k : t ≡ ends_in name key) where
-    owned : record_in key rdata ≡ some (resource (owner_of w key) type (lo_bytes shared.lo) shared.ttl.0 shared.time.0 (drop fixed rdata))
+    owned : record_in key rdata ≡ Some (resource (owner_of w key) type (lo_bytes shared.lo) shared.ttl.0 shared.time.0 (drop fixed rdata))
     owned = is_resource key rdata seen e w type shared fixed q
 
     marked : wild (owner_of w key) ≡ w

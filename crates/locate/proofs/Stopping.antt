@@ -2,7 +2,7 @@
 use mathlib.Core.Path.{◌≡◌, refl, ap, ◌∙◌, sym}
 use mathlib.Core.Bool.{Bool, true, false}
 use mathlib.Core.List.{List, [], ◌∷◌, ◌++◌}
-use mathlib.Core.Option.{Option, none, some}
+use Rattle.std.specs.Prelude.{Option, Some, None}
 use Prim.Native.Nat.{ℕ, ◌-◌, ◌≤◌}
 use native.Mathlib.Omega.{arith}
 use borrow.Author.Rules.{rules}
@@ -42,33 +42,33 @@ not_malformed true a b e = let z : ◌≡◌ {A = ℕ} 0 1 = cc in omega arith
 not_malformed false a b e = let z : ◌≡◌ {A = ℕ} 0 1 = cc in omega arith
 
 module _ (name key : List ℕ) where
-  pub step_none : (o : Option Record) → step_of name key o ≡ malformed → o ≡ none
+  pub step_none : (o : Option Record) → step_of name key o ≡ malformed → o ≡ None
   unfolding step_of related_step
-  step_none none e = refl
-  step_none (some (location prefix lo)) e = let z : ◌≡◌ {A = ℕ} 0 1 = cc in absurd (omega arith)
-  step_none (some (resource owner type lo ttl time rdata)) e = absurd (not_malformed (ends_in name key) _ _ e)
+  step_none None e = refl
+  step_none (Some (location prefix lo)) e = let z : ◌≡◌ {A = ℕ} 0 1 = cc in absurd (omega arith)
+  step_none (Some (resource owner type lo ttl time rdata)) e = absurd (not_malformed (ends_in name key) _ _ e)
 
   -- a record with an owner leaves the location as it is
   pub step_same : (client : List ℕ) (best : Best) (a b : Bool) (o : Option Record) (ds : Option (List Record)) → step_of name key o ≡ seen a b
       → located_from client best (onto_records o ds) ≡ located_from client best ds
   unfolding step_of located_from onto_records best_of better
-  step_same client best a b none ds e = let z : ◌≡◌ {A = ℕ} 0 1 = cc in absurd (omega arith)
-  step_same client best a b (some (location prefix lo)) ds e = let z : ◌≡◌ {A = ℕ} 0 1 = cc in absurd (omega arith)
-  step_same client best a b (some (resource owner type lo ttl time rdata)) none e = refl
-  step_same client best a b (some (resource owner type lo ttl time rdata)) (some rs) e = refl
+  step_same client best a b None ds e = let z : ◌≡◌ {A = ℕ} 0 1 = cc in absurd (omega arith)
+  step_same client best a b (Some (location prefix lo)) ds e = let z : ◌≡◌ {A = ℕ} 0 1 = cc in absurd (omega arith)
+  step_same client best a b (Some (resource owner type lo ttl time rdata)) None e = refl
+  step_same client best a b (Some (resource owner type lo ttl time rdata)) (Some rs) e = refl
 
   -- a location's prefix stands in its key
-  pub is_location_lem : (rdata lo : List ℕ) → step_of name key (record_in key rdata) ≡ located lo → (record_in key rdata ≡ some (location (drop 2 key) lo)) × (2 ≤ length key)
+  pub is_location_lem : (rdata lo : List ℕ) → step_of name key (record_in key rdata) ≡ located lo → (record_in key rdata ≡ Some (location (drop 2 key) lo)) × (2 ≤ length key)
   is_location_lem rdata lo e = go (record_in key rdata) refl e
     where
-      go : (o : Option Record) → record_in key rdata ≡ o → step_of name key o ≡ located lo → (record_in key rdata ≡ some (location (drop 2 key) lo)) × (2 ≤ length key)
-      go none q e = unfold step_of in (let z : ◌≡◌ {A = ℕ} 0 1 = cc in absurd (omega arith))
-      go (some (location prefix l)) q e = unfold step_of in
+      go : (o : Option Record) → record_in key rdata ≡ o → step_of name key o ≡ located lo → (record_in key rdata ≡ Some (location (drop 2 key) lo)) × (2 ≤ length key)
+      go None q e = unfold step_of in (let z : ◌≡◌ {A = ℕ} 0 1 = cc in absurd (omega arith))
+      go (Some (location prefix l)) q e = unfold step_of in
           let k : key ≡ 0 ∷ 37 ∷ prefix = (shaped key rdata (location prefix l) q).0 in
           let d : prefix ≡ drop 2 key = sym (ap (drop 2) k) in
           let m : l ≡ lo = cc in
           (rw (← d, ← m) q, omega (arith, ap length k))
-      go (some (resource owner type l ttl time rd)) q e = absurd (unfold step_of related_step in not_located (ends_in name key) _ _ lo e)
+      go (Some (resource owner type l ttl time rd)) q e = absurd (unfold step_of related_step in not_located (ends_in name key) _ _ lo e)
 
 -- what was met: a record, and in which roles it has no rank
 pub record Met (name key rdata : List ℕ) (a b : Bool) : Type 0 where
@@ -78,7 +78,7 @@ pub record Met (name key rdata : List ℕ) (a b : Bool) : Type 0 where
   pub zone : b ≡ false → NoRank name key rdata Role.Zone
 
 module _ (name key rdata : List ℕ) where
-  pub met_location : (prefix lo : List ℕ) → record_in key rdata ≡ some (location prefix lo) → Met name key rdata false false
+  pub met_location : (prefix lo : List ℕ) → record_in key rdata ≡ Some (location prefix lo) → Met name key rdata false false
   met_location prefix lo q = record {
     read = record { rec = location prefix lo; is = q };
     level = λ z. located_rank name key rdata Role.Level prefix lo q;
@@ -90,9 +90,9 @@ module _ (name key rdata : List ℕ) where
   met a b e = go (record_in key rdata) refl e
     where
       go : (o : Option Record) → record_in key rdata ≡ o → step_of name key o ≡ seen a b → Met name key rdata a b
-      go none q e = unfold step_of in (let z : ◌≡◌ {A = ℕ} 0 1 = cc in absurd (omega arith))
-      go (some (location prefix lo)) q e = unfold step_of in (let z : ◌≡◌ {A = ℕ} 0 1 = cc in absurd (omega arith))
-      go (some (resource owner type lo ttl time rd)) q e = by (ends_in name key) refl (unfold step_of related_step in e)
+      go None q e = unfold step_of in (let z : ◌≡◌ {A = ℕ} 0 1 = cc in absurd (omega arith))
+      go (Some (location prefix lo)) q e = unfold step_of in (let z : ◌≡◌ {A = ℕ} 0 1 = cc in absurd (omega arith))
+      go (Some (resource owner type lo ttl time rd)) q e = by (ends_in name key) refl (unfold step_of related_step in e)
         where
           by : (t : Bool) → ends_in name key ≡ t → pick t (seen (may_answer name key (wild owner)) (may_control (wild owner) type)) (seen false false) ≡ seen a b → Met name key rdata a b
           by true u p = unfold pick in

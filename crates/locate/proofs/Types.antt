@@ -3,7 +3,7 @@ use mathlib.Core.Path.{◌≡◌, refl}
 use mathlib.Core.List.{List, [], ◌∷◌}
 use Prim.Native.Nat.{ℕ, zero, suc, ◌+◌, ◌*◌}
 use native.Mathlib.Omega.{arith}
-use mathlib.Core.Option.{some}
+use Rattle.std.specs.Prelude.{Some}
 use lib.Dec.{eqb}
 use lib.ListN.{get_or, take}
 use Rattle.rules.specs.Lists.{from_be}
@@ -52,5 +52,5 @@ record_typed (zero ∷ []) rdata = resource_typed (zero ∷ []) rdata
 record_typed (zero ∷ mark ∷ prefix) rdata = pick_ok (OnSome (Typed (type_at rdata))) _ (λ t. tt) (λ t. tt)
 record_typed (suc b ∷ key) rdata = resource_typed (suc b ∷ key) rdata
 
-pub type_is : (key rdata owner lo rd : List ℕ) (type ttl time : ℕ) → record_in key rdata ≡ some (resource owner type lo ttl time rd) → type ≡ type_at rdata
+pub type_is : (key rdata owner lo rd : List ℕ) (type ttl time : ℕ) → record_in key rdata ≡ Some (resource owner type lo ttl time rd) → type ≡ type_at rdata
 type_is key rdata owner lo rd type ttl time e = rw e at (record_typed key rdata)

@@ -1,6 +1,5 @@
 -- How far a stream is judged.
-use Rattle.std.specs.Prelude.{ℕ, ◌+◌, ◌≤◌, ◌≡◌, List, length, take, drop}
-use Rattle.std.proofs.Math.Option.{some}
+use Rattle.std.specs.Prelude.{ℕ, ◌+◌, ◌≤◌, ◌≡◌, List, length, take, drop, Some}
 use Rattle.rules.specs.Records.{Record}
 use Rattle.rules.specs.Bytes.{size_of_all}
 use Rattle.rules.specs.Questions.{Best}
@@ -20,9 +19,9 @@ pub record Passed (role : Role) (name stream : List ℕ) (from until at : ℕ) :
   pub behind : List Record
   pub ordered : from ≤ until
   pub reached : until ≤ at
-  pub front : decode (drop 0 (take from stream)) ≡ some before
-  pub middle : decode (drop from (take until stream)) ≡ some between
-  pub back : decode (drop until (take at stream)) ≡ some behind
+  pub front : decode (drop 0 (take from stream)) ≡ Some before
+  pub middle : decode (drop from (take until stream)) ≡ Some between
+  pub back : decode (drop until (take at stream)) ≡ Some behind
   pub front_size : size_of_all before ≡ from
   pub back_size : until + size_of_all behind ≡ at
   pub front_rank : Unranked role name before
@@ -33,7 +32,7 @@ pub record Plain (name stream : List ℕ) (from at : ℕ) : Type 0 where
   pub records : List Record
   pub ordered : from ≤ at
   pub inside : at ≤ length stream
-  pub read : decode (drop from (take at stream)) ≡ some records
+  pub read : decode (drop from (take at stream)) ≡ Some records
   pub size_is : from + size_of_all records ≡ at
   pub unranked : (role : Role) → Unranked role name records
   pub unlocated : (client : List ℕ) (best : Best) → located_from client best (decode (drop from stream)) ≡ located_from client best (decode (drop at stream))

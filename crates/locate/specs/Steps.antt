@@ -1,6 +1,5 @@
 -- The pass over a stream, record by record.
-use Rattle.std.specs.Prelude.{ℕ, Bool, true, false, not, ◌&&◌, ◌||◌, List, length, eqb}
-use Rattle.std.proofs.Math.Option.{Option, none, some}
+use Rattle.std.specs.Prelude.{ℕ, Bool, true, false, not, ◌&&◌, ◌||◌, List, length, eqb, Option, Some, None}
 use Rattle.rules.specs.Lists.{pick}
 use Rattle.rules.specs.Records.{Record, location, resource, lo_bytes}
 use Rattle.rules.specs.Bytes.{wild}
@@ -33,6 +32,6 @@ unfoldable pub related_step : List ℕ → List ℕ → Bool → ℕ → Stepped
 related_step name key w type = seen (may_answer name key w) (may_control w type)
 
 unfoldable pub step_of : List ℕ → List ℕ → Option Record → Stepped
-step_of name key none = malformed
-step_of name key (some (location prefix lo)) = located lo
-step_of name key (some (resource owner type lo ttl time rdata)) = pick (ends_in name key) (related_step name key (wild owner) type) (seen false false)
+step_of name key None = malformed
+step_of name key (Some (location prefix lo)) = located lo
+step_of name key (Some (resource owner type lo ttl time rdata)) = pick (ends_in name key) (related_step name key (wild owner) type) (seen false false)

@@ -2,7 +2,7 @@
 use mathlib.Core.Path.{◌≡◌, refl, ap, ◌∙◌, sym}
 use mathlib.Core.Bool.{Bool, true, false}
 use mathlib.Core.List.{List, []}
-use mathlib.Core.Option.{Option, none, some}
+use Rattle.std.specs.Prelude.{Option, Some, None}
 use Prim.Native.Nat.{ℕ, ◌+◌, ◌≤◌}
 use native.Mathlib.Omega.{arith}
 use lib.Dec.{T}
@@ -28,14 +28,14 @@ use Rattle.records.proofs.Sequence.{one}
 
 good_prefix : (o : Option (List ℕ)) → T (is_done (unless FieldKind.Address o)) → is_some o ≡ true
 unfolding unless is_done is_some
-good_prefix none d = absurd d
-good_prefix (some x) d = refl
+good_prefix None d = absurd d
+good_prefix (Some x) d = refl
 
-read_prefix : (o : Option (List ℕ)) (good : Bool) (l : List ℕ) → is_some o ≡ true → pick good (some l) none ≡ o → l ≡ value_or [] o
+read_prefix : (o : Option (List ℕ)) (good : Bool) (l : List ℕ) → is_some o ≡ true → pick good (Some l) None ≡ o → l ≡ value_or [] o
 unfolding is_some pick value_or
-read_prefix none good l h e = absurd (let z : ◌≡◌ {A = ℕ} 0 1 = cc in omega arith)
-read_prefix (some x) true l h e = cc
-read_prefix (some x) false l h e = absurd (let z : ◌≡◌ {A = ℕ} 0 1 = cc in omega arith)
+read_prefix None good l h e = absurd (let z : ◌≡◌ {A = ℕ} 0 1 = cc in omega arith)
+read_prefix (Some x) true l h e = cc
+read_prefix (Some x) false l h e = absurd (let z : ◌≡◌ {A = ℕ} 0 1 = cc in omega arith)
 
 module _ (p : PrefixRead) (o : Option (List ℕ)) (h : IsPrefix o p) where
   pub prefix_within : p.len ≤ length p.bytes

@@ -1,7 +1,7 @@
 -- The laws of a serial: a number that fits 32 bits.
 use mathlib.Core.Path.{◌≡◌}
 use mathlib.Core.List.{List}
-use mathlib.Core.Option.{none, some}
+use Rattle.std.specs.Prelude.{Some, None}
 use Prim.Native.Nat.{ℕ}
 use native.Mathlib.Omega.{arith}
 use borrow.Author.Rules.{rules}
@@ -13,11 +13,11 @@ use Rattle.numbers.specs.declared.numbers.NumberRead.{NumberRead}
 use Rattle.numbers.proofs.Number.{within}
 
 module _ (t : List ℕ) (x : NumberRead) (p : number_read x ≡ number_of 4294967295 t) where
-  pub good : (v : ℕ) → x ≡ NumberRead.Good v → some v ≡ number_of largest_long t
+  pub good : (v : ℕ) → x ≡ NumberRead.Good v → Some v ≡ number_of largest_long t
   unfolding largest_long
   good v e = rw (← p, e)
 
-  pub bad : x ≡ NumberRead.Bad → none ≡ number_of largest_long t
+  pub bad : x ≡ NumberRead.Bad → None ≡ number_of largest_long t
   unfolding largest_long
   bad e = rw (← p, e)
 

@@ -1,8 +1,7 @@
 -- A serial that an argument says.
-use Rattle.std.proofs.Math.Option.{Option, none, some}
-use Rattle.std.specs.Prelude.{ℕ}
+use Rattle.std.specs.Prelude.{ℕ, Option, Some, None}
 use Rattle.lookup.specs.declared.serials.SerialRead.{SerialRead}
 
 abbrev pub serial_read : SerialRead → Option ℕ
-serial_read (SerialRead.Good value) = some value
-serial_read SerialRead.Bad = none
+serial_read (SerialRead.Good value) = Some value
+serial_read SerialRead.Bad = None

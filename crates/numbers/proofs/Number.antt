@@ -2,7 +2,7 @@
 use mathlib.Core.Path.{◌≡◌, refl, ◌∙◌, sym}
 use mathlib.Core.Bool.{Bool, true, false, ◌&&◌}
 use mathlib.Core.List.{List}
-use mathlib.Core.Option.{none, some}
+use Rattle.std.specs.Prelude.{Some, None}
 use Prim.Native.Nat.{ℕ, ◌+◌, ◌*◌, ◌-◌, ◌^◌, ◌<◌, ◌≤◌}
 use native.Mathlib.Nat.{pow-suc, pow-le-pow_right}
 use native.Mathlib.Numerals.{add-one}
@@ -44,23 +44,23 @@ module _ (s : List ℕ) (value i : ℕ) (e : Digits s value i) (h : i < length s
   not_high l g = e.good ∙ rw (left_at s i h, le-leb 48 _ l, lt-leb _ 57 g)
 
 module _ (limit : ℕ) (s : List ℕ) where
-  pub empty : length s ≡ 0 → none ≡ number_of limit s
+  pub empty : length s ≡ 0 → None ≡ number_of limit s
   unfolding number_of pick
   empty h = rw (lt-leb 1 (length s) (omega arith))
 
-  pub long : 10 < length s → none ≡ number_of limit s
+  pub long : 10 < length s → None ≡ number_of limit s
   unfolding number_of pick
   long h = rw (le-leb 1 (length s) (omega arith), lt-leb (length s) 10 h)
 
-  no_digits : (length s ≡ 0 → ⊥) → length s ≤ 10 → all digit s ≡ false → none ≡ number_of limit s
+  no_digits : (length s ≡ 0 → ⊥) → length s ≤ 10 → all digit s ≡ false → None ≡ number_of limit s
   unfolding number_of pick
   no_digits a b q = rw (le-leb 1 (length s) (omega arith), le-leb (length s) 10 b, q)
 
   module _ (value i : ℕ) (e : Digits s value i) (a : length s ≡ 0 → ⊥) (b : length s ≤ 10) where
-    pub low : i < length s → get_or s i 0 < 48 → none ≡ number_of limit s
+    pub low : i < length s → get_or s i 0 < 48 → None ≡ number_of limit s
     low h l = no_digits a b (not_low s value i e h l)
 
-    pub high : i < length s → 48 ≤ get_or s i 0 → 57 < get_or s i 0 → none ≡ number_of limit s
+    pub high : i < length s → 48 ≤ get_or s i 0 → 57 < get_or s i 0 → None ≡ number_of limit s
     high h l g = no_digits a b (not_high s value i e h l g)
 
     digits_end : length s ≤ i → all digit s ≡ true
@@ -71,11 +71,11 @@ module _ (limit : ℕ) (s : List ℕ) where
     unfolding decimal_from
     worth_end h = e.worth ∙ rw (drop_of_length-le s h)
 
-    pub good : length s ≤ i → value ≤ limit → some value ≡ number_of limit s
+    pub good : length s ≤ i → value ≤ limit → Some value ≡ number_of limit s
     unfolding number_of pick
     good h l = rw (le-leb 1 (length s) (omega arith), le-leb (length s) 10 b, digits_end h, worth_end h, le-leb value limit l)
 
-    pub over : length s ≤ i → limit < value → none ≡ number_of limit s
+    pub over : length s ≤ i → limit < value → None ≡ number_of limit s
     unfolding number_of pick
     over h l = rw (le-leb 1 (length s) (omega arith), le-leb (length s) 10 b, digits_end h, worth_end h, lt-leb value limit l)
 
@@ -94,11 +94,11 @@ pub more_fits : (i v n d b : ℕ) → v < 10 ^ i → i < n → n ≤ 10 → d �
 more_fits i v n d b h k m e g = let l = ten_digits i v h (omega arith) in omega arith
 
 -- a good number is within its limit
-value_within : (limit : ℕ) (t : List ℕ) (v : ℕ) → number_of limit t ≡ some v → v ≤ limit
+value_within : (limit : ℕ) (t : List ℕ) (v : ℕ) → number_of limit t ≡ Some v → v ≤ limit
 unfolding number_of pick
 value_within limit t v e = by (leb 1 (length t) && leb (length t) 10 && all digit t) (leb (decimal_from 0 t) limit) refl e
   where
-    by : (u w : Bool) → leb (decimal_from 0 t) limit ≡ w → pick (u && w) (some (decimal_from 0 t)) none ≡ some v → v ≤ limit
+    by : (u w : Bool) → leb (decimal_from 0 t) limit ≡ w → pick (u && w) (Some (decimal_from 0 t)) None ≡ Some v → v ≤ limit
     by true true a e = let q : decimal_from 0 t ≡ v = cc in omega (arith, leb-true (decimal_from 0 t) limit a)
     by true false a e = absurd (let z : ◌≡◌ {A = ℕ} 0 1 = cc in omega arith)
     by false w a e = absurd (let z : ◌≡◌ {A = ℕ} 0 1 = cc in omega arith)

@@ -2,7 +2,7 @@
 use mathlib.Core.Path.{◌≡◌, refl, ap, sym}
 use mathlib.Core.Bool.{true, false, true≢false}
 use mathlib.Core.List.{List, [], ◌∷◌, map}
-use mathlib.Core.Option.{none}
+use Rattle.std.specs.Prelude.{None}
 use Prim.Native.Nat.{ℕ, ◌<◌, ◌≤◌}
 use native.Mathlib.Omega.{arith}
 use borrow.Author.Rules.{rules}
@@ -32,7 +32,7 @@ pub octet_byte_lem : (t : List ℕ) → octet_byte t ≡ one (decimal_from 0 t)
 unfolding octet_byte
 octet_byte_lem t = refl
 
-pub refused : (s bytes : List ℕ) → length bytes ≡ 4 → address_if (leb (length (split_on 46 s)) 4) octet octet_byte (split_on 46 s) ≡ none
+pub refused : (s bytes : List ℕ) → length bytes ≡ 4 → address_if (leb (length (split_on 46 s)) 4) octet octet_byte (split_on 46 s) ≡ None
     → IsOctets s (record { bytes = bytes; count = 0; good = false })
 unfolding octets_read pick
 refused s bytes l e =
@@ -48,7 +48,7 @@ pub byte_fits : (t : List ℕ) (x : NumberRead) (v : ℕ) → IsPiece octet (dec
 byte_fits t x v q e = omega (arith, q.fits v e)
 
 module _ (s bytes : List ℕ) (count start : ℕ) (e : Going octet octet_byte one 46 s bytes count start) where
-  pub too_many : (end : ℕ) → IsEnd 46 s start end → 3 < count → address_if (leb (length (split_on 46 s)) 4) octet octet_byte (split_on 46 s) ≡ none
+  pub too_many : (end : ℕ) → IsEnd 46 s start end → 3 < count → address_if (leb (length (split_on 46 s)) 4) octet octet_byte (split_on 46 s) ≡ None
   unfolding address_if pick
   too_many end p h = let m = one_more e (piece_at p) in rw (lt-leb (length (split_on 46 s)) 4 (omega arith))
 

@@ -2,7 +2,7 @@
 use mathlib.Core.Path.{◌≡◌, refl, ◌∙◌, sym}
 use mathlib.Core.Bool.{Bool, true, false, not, ◌||◌, and-true, and-false}
 use mathlib.Core.List.{List, [], ◌∷◌}
-use mathlib.Core.Option.{none, some}
+use Rattle.std.specs.Prelude.{Some, None}
 use Prim.Native.Nat.{ℕ, ◌<◌, ◌≤◌}
 use native.Mathlib.Omega.{arith}
 use borrow.Author.Rules.{rules}
@@ -48,7 +48,7 @@ module _ (t : List ℕ) where
   pub number_is : (r : Bool) (x : NumberRead) → r ≡ leading_zero t → r ≡ false → length t ≤ 3 → number_read x ≡ number_of 255 t → IsPiece octet (decimal_from 0) 255 t x
   unfolding number_of octet leading_zero
   number_is r x p q h e =
-      let n : number_of 255 t ≡ pick (octet t) (some (decimal_from 0 t)) none =
+      let n : number_of 255 t ≡ pick (octet t) (Some (decimal_from 0 t)) None =
       rw (not-false (eqb (length t) 1 || not (first_is_zero t)) (sym p ∙ q), le-leb (length t) 3 h, le-leb (length t) 10 (omega arith), and-true, and-true) in
       record { says = e ∙ n; fits = λ v w. within 255 t x v e w }
 

@@ -2,7 +2,7 @@
 use mathlib.Core.Path.{◌≡◌, refl, ap, ◌∙◌, sym}
 use mathlib.Core.Bool.{Bool, true, false, and-false}
 use mathlib.Core.List.{List, [], ◌∷◌, ◌++◌, map, append_assoc, append-nil}
-use mathlib.Core.Option.{none, some}
+use Rattle.std.specs.Prelude.{Some, None}
 use Prim.Native.Nat.{ℕ, ◌+◌, ◌-◌, ◌<◌, ◌≤◌}
 use native.Mathlib.Nat.{add-zero}
 use native.Mathlib.Omega.{arith}
@@ -35,7 +35,7 @@ module _ {good : List ℕ → Bool} {f : List ℕ → List ℕ} {pieces left : L
           many = e.many ∙ rw q (omega arith);
         }
 
-    pub bad_piece : (wanted : Bool) → good piece ≡ false → address_if wanted good f pieces ≡ none
+    pub bad_piece : (wanted : Bool) → good piece ≡ false → address_if wanted good f pieces ≡ None
     unfolding all address_if pick
     bad_piece wanted p = rw (e.tests, q, p, and-false wanted)
 
@@ -59,12 +59,12 @@ unfolding pick
 not_good good value most t e = record { says = rw e; fits = λ v q. absurd (let z : ◌≡◌ {A = ℕ} 0 1 = cc in omega arith) }
 
 -- what a reading tells of its test and its value
-pub good_by : {A : Type 0} (u : Bool) (n v : A) → some v ≡ pick u (some n) none → (u ≡ true) × (n ≡ v)
+pub good_by : {A : Type 0} (u : Bool) (n v : A) → Some v ≡ pick u (Some n) None → (u ≡ true) × (n ≡ v)
 unfolding pick
 good_by true n v e = (refl, cc)
 good_by false n v e = absurd (let z : ◌≡◌ {A = ℕ} 0 1 = cc in omega arith)
 
-pub bad_by : {A : Type 0} (u : Bool) (n : A) → none ≡ pick u (some n) none → u ≡ false
+pub bad_by : {A : Type 0} (u : Bool) (n : A) → None ≡ pick u (Some n) None → u ≡ false
 unfolding pick
 bad_by true n e = absurd (let z : ◌≡◌ {A = ℕ} 0 1 = cc in omega arith)
 bad_by false n e = refl
@@ -87,7 +87,7 @@ module _ (good : List ℕ → Bool) (bytes : List ℕ → List ℕ) (encode : �
 module _ (good : List ℕ → Bool) (bytes : List ℕ → List ℕ) (encode : ℕ → List ℕ) (b : ℕ) (value : List ℕ → ℕ) (same : (t : List ℕ) → bytes t ≡ encode (value t)) (most : ℕ)
     (s values : List ℕ) (count start end : ℕ) (e : Going good bytes encode b s values count start) (p : IsEnd b s start end)
     (x : NumberRead) (q : IsPiece good value most (take (end - start) (drop start s)) x) where
-  pub bad : (wanted : Bool) → x ≡ NumberRead.Bad → address_if wanted good bytes (split_on b s) ≡ none
+  pub bad : (wanted : Bool) → x ≡ NumberRead.Bad → address_if wanted good bytes (split_on b s) ≡ None
   bad wanted w = bad_piece e (piece_at p) wanted (bad_by (good (take (end - start) (drop start s))) _ (rw w at q.says))
 
   pub more : (v last : ℕ) → x ≡ NumberRead.Good v → count ≤ last → length values ≡ last + 1 → Going good bytes encode b s (set values count v) (count + 1) (end + 1)

@@ -1,6 +1,5 @@
 -- What the readers of octets promise.
-use Rattle.std.specs.Prelude.{ℕ, ◌≤◌, ◌≡◌, Bool, not, ◌||◌, true, false, List, eqb, leb, length, take}
-use Rattle.std.proofs.Math.Option.{Option, none, some}
+use Rattle.std.specs.Prelude.{ℕ, ◌≤◌, ◌≡◌, Bool, not, ◌||◌, true, false, List, eqb, leb, length, take, Option, Some, None}
 use Rattle.rules.specs.Lists.{pick, split_on}
 use Rattle.rules.specs.Fields.{first_is_zero, octet, octet_byte, address_if}
 use Rattle.numbers.specs.Views.{number_read}
@@ -13,12 +12,12 @@ leading_zero t = not (eqb (length t) 1 || not (first_is_zero t))
 
 -- one number of an address, of either form
 pub record IsPiece (good : List ℕ → Bool) (value : List ℕ → ℕ) (most : ℕ) (piece : List ℕ) (r : NumberRead) : Type 0 where
-  pub says : number_read r ≡ pick (good piece) (some (value piece)) none
+  pub says : number_read r ≡ pick (good piece) (Some (value piece)) None
   pub fits : (v : ℕ) → r ≡ NumberRead.Good v → v ≤ most
 
 -- the bytes that are read
 unfoldable pub octets_read : OctetsRead → Option (List ℕ)
-octets_read r = pick r.good (some (take r.count r.bytes)) none
+octets_read r = pick r.good (Some (take r.count r.bytes)) None
 
 pub record IsOctets (text : List ℕ) (r : OctetsRead) : Type 0 where
   pub says : octets_read r ≡ address_if (leb (length (split_on 46 text)) 4) octet octet_byte (split_on 46 text)

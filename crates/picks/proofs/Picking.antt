@@ -2,7 +2,7 @@
 use mathlib.Core.Path.{◌≡◌, refl, ap, ◌∙◌, sym}
 use mathlib.Core.Bool.{Bool, true, false, not, ◌||◌, and-false}
 use mathlib.Core.List.{List, [], ◌∷◌}
-use mathlib.Core.Option.{Option, none, some}
+use Rattle.std.specs.Prelude.{Option, Some, None}
 use Prim.Native.Nat.{ℕ, zero, suc, ◌+◌, ◌-◌, ◌<◌, ◌≤◌}
 use native.Mathlib.Omega.{arith}
 use borrow.Author.Rules.{rules}
@@ -41,8 +41,8 @@ module _ (type : ℕ) (role : Role) (name here : List ℕ) (moment best : ℕ) (
   other_rank n = go (record_in key rdata) q
     where
       go : (o : Option Record) → k ≡ rank_in role name here moment o → false ≡ wanted_in type role name here moment best o
-      go none p = unfold wanted_in in refl
-      go (some r) p = unfold rank_in wanted_in wanted in rw (ne_eqb (seen_rank role name here moment r) best (λ e. n (p ∙ e)))
+      go None p = unfold wanted_in in refl
+      go (Some r) p = unfold rank_in wanted_in wanted in rw (ne_eqb (seen_rank role name here moment r) best (λ e. n (p ∙ e)))
 
   module _ (seen : Seen) (e : seen_record key rdata seen ≡ record_in key rdata) where
     pub wanted_broken : seen ≡ Seen.Broken → false ≡ wanted_in type role name here moment best (record_in key rdata)
@@ -57,7 +57,7 @@ module _ (type : ℕ) (role : Role) (name here : List ℕ) (moment best : ℕ) (
       typed : wanted_in type role name here moment best (record_in key rdata) ≡ (eqb type 255 || eqb type rtype)
       unfolding wanted_in wanted seen_record of_type rank_in
       typed =
-          let r : record_in key rdata ≡ some (resource (owner_of w key) rtype (lo_bytes shared.lo) shared.ttl.0 shared.time.0 (drop fixed rdata)) = sym e ∙ ap (seen_record key rdata) b in
+          let r : record_in key rdata ≡ Some (resource (owner_of w key) rtype (lo_bytes shared.lo) shared.ttl.0 shared.time.0 (drop fixed rdata)) = sym e ∙ ap (seen_record key rdata) b in
           let s : seen_rank role name here moment (resource (owner_of w key) rtype (lo_bytes shared.lo) shared.ttl.0 shared.time.0 (drop fixed rdata)) ≡ best = sym (q ∙ ap (rank_in role name here moment) r) ∙ h in
           rw (r, eq-eqb _ _ s)
 
@@ -103,7 +103,7 @@ module _ (type : ℕ) (role : Role) (name here : List ℕ) (moment best at left 
   unfolding picked_from placed_from keep pick
   pass_by w = rw w
 
-  take_it : wanted type role name here moment best r ≡ true → left ≡ 0 → picked_from type role name here moment best at left (r ∷ rs) ≡ reply_of moment (some (record { rec = r; end = at + size r }))
+  take_it : wanted type role name here moment best r ≡ true → left ≡ 0 → picked_from type role name here moment best at left (r ∷ rs) ≡ reply_of moment (Some (record { rec = r; end = at + size r }))
   unfolding picked_from placed_from keep pick
   take_it w z = rw (w, z)
 
@@ -114,7 +114,7 @@ module _ (type : ℕ) (role : Role) (name here : List ℕ) (moment best at left 
       ap (λ (k : ℕ). picked_from type role name here moment best at k (r ∷ rs)) q ∙ rw w
 
 -- a wanted record is no location
-same_reply : (type : ℕ) (role : Role) (name here : List ℕ) (moment best end : ℕ) (r : Record) → wanted type role name here moment best r ≡ true → reply_in moment end (some r) ≡ reply_of moment (some (record { rec = r; end = end }))
+same_reply : (type : ℕ) (role : Role) (name here : List ℕ) (moment best end : ℕ) (r : Record) → wanted type role name here moment best r ≡ true → reply_in moment end (Some r) ≡ reply_of moment (Some (record { rec = r; end = end }))
 unfolding wanted of_type reply_in
 same_reply type role name here moment best end (location prefix lo) w =
     let z : ◌≡◌ {A = Bool} false true = sym (and-false (eqb (seen_rank role name here moment (location prefix lo)) best)) ∙ w in
@@ -130,7 +130,7 @@ module _ (stream : List ℕ) (at : ℕ) (span : Span) (i : IsSpan stream at span
   data_long = length-take-le _ _ (omega (arith, length-drop span.middle stream, i.inside, i.data_behind))
 
   -- a record ends where the next begins
-  pub ends : (r : Record) → record_in (take (span.middle - span.start) (drop span.start stream)) (take (span.next - span.middle) (drop span.middle stream)) ≡ some r
+  pub ends : (r : Record) → record_in (take (span.middle - span.start) (drop span.start stream)) (take (span.next - span.middle) (drop span.middle stream)) ≡ Some r
       → at + size r ≡ span.next
   ends r e =
       let s : size r ≡ 8 + length (take (span.middle - span.start) (drop span.start stream)) + length (take (span.next - span.middle) (drop span.middle stream))
@@ -161,7 +161,7 @@ module _ (type : ℕ) (role : Role) (name here : List ℕ) (moment best : ℕ) (
     picked_here r y z p =
         p ∙ ap (reply_in moment span.next) whole.read
         ∙ same_reply type role name here moment best span.next whole.rec (is_wanted ∙ y)
-        ∙ ap (λ (n : ℕ). reply_of moment (some (record { rec = whole.rec; end = n }))) (sym (ends stream at span i whole.rec whole.read))
+        ∙ ap (λ (n : ℕ). reply_of moment (Some (record { rec = whole.rec; end = n }))) (sym (ends stream at span i whole.rec whole.read))
         ∙ sym (take_it type role name here moment best at left whole.rec _ (is_wanted ∙ y) z)
         ∙ left_over
 

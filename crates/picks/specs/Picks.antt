@@ -1,7 +1,5 @@
 -- The records of an answer, as the pass over the stream picks them.
-use Rattle.std.specs.Prelude.{ℕ, Bool, false, ◌&&◌, List, eqb}
-use Rattle.std.proofs.Math.Option.{Option, none, some}
-use Rattle.std.proofs.Math.ListN.{get_elem?}
+use Rattle.std.specs.Prelude.{ℕ, Bool, false, ◌&&◌, List, eqb, Option, Some, None, slice_get}
 use Rattle.rules.specs.declared.replies.Reply.{Reply}
 use Rattle.rules.specs.Lists.{keep}
 use Rattle.rules.specs.Records.{Record, location, resource}
@@ -15,15 +13,15 @@ unfoldable pub wanted : ℕ → Role → List ℕ → List ℕ → ℕ → ℕ �
 wanted type role name here moment best r = eqb (seen_rank role name here moment r) best && of_type type r
 
 unfoldable pub wanted_in : ℕ → Role → List ℕ → List ℕ → ℕ → ℕ → Option Record → Bool
-wanted_in type role name here moment best none = false
-wanted_in type role name here moment best (some r) = wanted type role name here moment best r
+wanted_in type role name here moment best None = false
+wanted_in type role name here moment best (Some r) = wanted type role name here moment best r
 
 -- what is answered of a record that ends at a place; a location is never answered
 unfoldable pub reply_in : ℕ → ℕ → Option Record → Reply
-reply_in moment end none = Reply.NoMore
-reply_in moment end (some (location prefix lo)) = Reply.NoMore
-reply_in moment end (some (resource owner type lo ttl time rdata)) = reply_of moment (some (record { rec = resource owner type lo ttl time rdata; end = end }))
+reply_in moment end None = Reply.NoMore
+reply_in moment end (Some (location prefix lo)) = Reply.NoMore
+reply_in moment end (Some (resource owner type lo ttl time rdata)) = reply_of moment (Some (record { rec = resource owner type lo ttl time rdata; end = end }))
 
 -- the record of an ordinal among the wanted ones of records that begin at a place
 unfoldable pub picked_from : ℕ → Role → List ℕ → List ℕ → ℕ → ℕ → ℕ → ℕ → List Record → Reply
-picked_from type role name here moment best at ordinal rs = reply_of moment (get_elem? (keep (λ p. wanted type role name here moment best p.rec) (placed_from at rs)) ordinal)
+picked_from type role name here moment best at ordinal rs = reply_of moment (slice_get (keep (λ p. wanted type role name here moment best p.rec) (placed_from at rs)) ordinal)

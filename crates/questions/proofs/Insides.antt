@@ -2,11 +2,11 @@
 use mathlib.Core.Path.{◌≡◌, refl}
 use mathlib.Core.Bool.{not}
 use mathlib.Core.List.{List, [], ◌∷◌}
-use mathlib.Core.Option.{Option, none, some}
+use Rattle.std.specs.Prelude.{Option, Some, None, slice_get}
 use Prim.Native.Nat.{ℕ, zero, suc, ◌+◌, ◌≤◌}
 use native.Mathlib.Omega.{arith}
 use lib.Dec.{leb}
-use lib.ListN.{length, take, drop, get_elem?, length-append, length-take, length-drop}
+use lib.ListN.{length, take, drop, length-append, length-take, length-drop}
 use Rattle.rules.specs.Lists.{from_le}
 use Rattle.rules.specs.Names.{is_wire}
 use Rattle.rules.specs.Records.{Record}
@@ -29,9 +29,9 @@ use Rattle.questions.specs.declared.questions.LineReply.{LineReply}
 onto : (key rdata : List ℕ) (rest n : ℕ) (a : Option Record) (b : Option (List Record)) → OnSome (Shape key rdata) a → OnSome (λ rs. size_of_all rs ≡ rest) b
     → 8 + length key + length rdata + rest ≡ n → OnSome (λ rs. size_of_all rs ≡ n) (onto_records a b)
 unfolding onto_records size_of_all
-onto key rdata rest n none b s h e = tt
-onto key rdata rest n (some r) none s h e = tt
-onto key rdata rest n (some r) (some rs) s h e = omega (arith, size_is key rdata r s)
+onto key rdata rest n None b s h e = tt
+onto key rdata rest n (Some r) None s h e = tt
+onto key rdata rest n (Some r) (Some rs) s h e = omega (arith, size_is key rdata r s)
 
 three_parts : (k d : ℕ) (xs : List ℕ) → length (take k xs) + length (take d (drop k xs)) + length (drop d (drop k xs)) ≡ length xs
 three_parts k d xs = simp (length-take, length-drop) (omega arith)
@@ -74,14 +74,14 @@ placed_ends at n (r ∷ rs) h =
 module _ (stream : List ℕ) (q : Question) (ordinal : ℕ) where
   reply_inside : (p : Option Placed) → OnSome (Ends (length stream)) p → Inside stream (reply_of q.moment p)
   unfolding reply_of
-  reply_inside none h = tt
-  reply_inside (some p) h = omega (arith, h.0, h.1)
+  reply_inside None h = tt
+  reply_inside (Some p) h = omega (arith, h.0, h.1)
 
   decoded_inside : (o : Option (List Record)) → OnSome (λ rs. size_of_all rs ≡ length stream) o → Inside stream (response_decoded o q ordinal).reply
   unfolding response_decoded response_from response_of refusal
-  decoded_inside none h = tt
-  decoded_inside (some rs) h =
-      reply_inside (get_elem? (answers q (placed_from 0 rs)).list ordinal)
+  decoded_inside None h = tt
+  decoded_inside (Some rs) h =
+      reply_inside (slice_get (answers q (placed_from 0 rs)).list ordinal)
       (all_at ordinal (answers_all q (placed_ends 0 (length stream) rs (omega (arith, h)))))
 
   abbrev In : Response → Type 0
@@ -98,8 +98,8 @@ module _ (stream : List ℕ) (q : Question) (ordinal : ℕ) where
 pub answered_inside : (records : List ℕ) (question : Option Question) (ordinal : ℕ) (r : LineReply) (a : Response)
     → r ≡ line_reply records question ordinal → r ≡ LineReply.Answered a → Inside records a.reply
 unfolding line_reply
-answered_inside records none ordinal r a e f = absurd (let z : ◌≡◌ {A = ℕ} 0 1 = cc in omega arith)
-answered_inside records (some q) ordinal r a e f = let w : ask_response records q ordinal ≡ a = cc in rw w at (inside records q ordinal)
+answered_inside records None ordinal r a e f = absurd (let z : ◌≡◌ {A = ℕ} 0 1 = cc in omega arith)
+answered_inside records (Some q) ordinal r a e f = let w : ask_response records q ordinal ≡ a = cc in rw w at (inside records q ordinal)
 
 pub found_inside : (records : List ℕ) (reply : Reply) (type : ℕ) (lifetime : Ttl) (place count : ℕ)
     → Inside records reply → reply ≡ Reply.Found type lifetime place count → place + count ≤ length records

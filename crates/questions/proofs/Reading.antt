@@ -2,7 +2,7 @@
 use mathlib.Core.Path.{◌≡◌, refl, ◌∙◌, sym}
 use mathlib.Core.Bool.{Bool, true, false, not}
 use mathlib.Core.List.{List}
-use mathlib.Core.Option.{Option, none, some}
+use Rattle.std.specs.Prelude.{Option, Some, None}
 use Prim.Native.Nat.{ℕ, ◌-◌}
 use native.Mathlib.Omega.{arith}
 use borrow.Author.Rules.{rules}
@@ -102,7 +102,7 @@ module _ (t n : List ℕ) (x : NumberRead) (p : number_read x ≡ number_of 6553
     asked_by v e = record { says = by r.good refl h.good; within = h.within }
       where
         by : (g : Bool) → r.good ≡ g → r.good ≡ is_named (name_of n)
-            → pick r.good (some (record { type = v; name = held_name r.name })) none ≡ asked_of t n
+            → pick r.good (Some (record { type = v; name = held_name r.name })) None ≡ asked_of t n
         by true a b = unfold pick in rw (← b, a, ← p, e, h.held a)
         by false a b = unfold pick in rw (← b, a, ← p, e)
 
@@ -132,7 +132,7 @@ module _ (asker : Option Asker) (asked : Option Asked) (r : AskerRead) (w : Aske
 
 pub ruleset both_laws = (rules, question_by, no_asker)
 
-pub nothing : (x : Moment) → IsQuestion none (record { good = false; moment = x; client = record { bytes = replicate 16 0; len = 0 }; qtype = 0; name = record { bytes = replicate 255 0; len = 1 } })
+pub nothing : (x : Moment) → IsQuestion None (record { good = false; moment = x; client = record { bytes = replicate 16 0; len = 0 }; qtype = 0; name = record { bytes = replicate 255 0; len = 1 } })
 unfolding question_read pick
 nothing x = record { says = refl; held = record { few = omega arith; long = refl }; within = record { short = omega arith; long = refl } }
 
@@ -143,7 +143,7 @@ pub ruleset held_laws = (rules, front_count)
 -- ---- the question of a line
 
 module _ (s : List ℕ) (r : Spans) (p : IsSpans s r) where
-  pub no_four : (x : QuestionRead) → not r.good ≡ true → IsQuestion none x → IsQuestion (question_of s) x
+  pub no_four : (x : QuestionRead) → not r.good ≡ true → IsQuestion None x → IsQuestion (question_of s) x
   unfolding question_of question_in spans_read pick
   no_four x g h = rw (← p.says, not-true r.good g) h
 

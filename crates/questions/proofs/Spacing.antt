@@ -2,7 +2,7 @@
 use mathlib.Core.Path.{◌≡◌, refl, ◌∙◌, sym}
 use mathlib.Core.Bool.{Bool, true, false}
 use mathlib.Core.List.{List, [], ◌∷◌}
-use mathlib.Core.Option.{none}
+use Rattle.std.specs.Prelude.{None}
 use Prim.Native.Nat.{ℕ, ◌+◌, ◌-◌, ◌<◌, ◌≤◌}
 use native.Mathlib.Omega.{arith}
 use borrow.Author.Rules.{rules}
@@ -18,7 +18,7 @@ use Rattle.questions.specs.Views.{spans_read, no_spans, IsSpans}
 use Rattle.questions.specs.declared.spans.Spans.{Spans}
 
 module _ (s : List ℕ) (r : Spans) (z : r ≡ no_spans) where
-  none_of : none ≡ four_of (split_on 32 s) → IsSpans s r
+  none_of : None ≡ four_of (split_on 32 s) → IsSpans s r
   unfolding spans_read pick
   none_of e =
       rw z
@@ -33,12 +33,12 @@ module _ (s : List ℕ) (r : Spans) (z : r ≡ no_spans) where
       })
 
 -- a fifth piece, whatever it is
-five : (m c t n : List ℕ) (u : List ℕ) → none ≡ four_of (m ∷ c ∷ t ∷ n ∷ split_on 32 u)
+five : (m c t n : List ℕ) (u : List ℕ) → None ≡ four_of (m ∷ c ∷ t ∷ n ∷ split_on 32 u)
 unfolding four_of split_on
 five m c t n [] = refl
 five m c t n (x ∷ u) = by (eqb x 32) (split_on 32 u)
   where
-    by : (w : Bool) (ps : List (List ℕ)) → none ≡ four_of (m ∷ c ∷ t ∷ n ∷ pick w ([] ∷ ps) (onto_first x ps))
+    by : (w : Bool) (ps : List (List ℕ)) → None ≡ four_of (m ∷ c ∷ t ∷ n ∷ pick w ([] ∷ ps) (onto_first x ps))
     by true ps = unfold pick in refl
     by false [] = unfold pick onto_first in refl
     by false (p ∷ ps) = unfold pick onto_first in refl

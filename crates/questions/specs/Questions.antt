@@ -1,6 +1,5 @@
 -- The question that a line of text is.
-use Rattle.std.specs.Prelude.{ℕ, ◌&&◌, List, [], ◌∷◌, eqb, length}
-use Rattle.std.proofs.Math.Option.{Option, none, some}
+use Rattle.std.specs.Prelude.{ℕ, ◌&&◌, List, [], ◌∷◌, eqb, length, Option, Some, None}
 use Rattle.rules.specs.Lists.{pick, value_or, is_some, all, split_on}
 use Rattle.rules.specs.Fields.{lower_hex_digit, hex_from, number_of, largest_short, address_of}
 use Rattle.rules.specs.Names.{name_of, wire_of}
@@ -9,7 +8,7 @@ use Rattle.names.specs.Views.{is_named}
 
 -- any moment of 64 bits: 16 hexadecimal digits in lower case. Asking refuses those of 2^63 and more by their own number.
 unfoldable pub moment_of : List ℕ → Option ℕ
-moment_of t = pick (eqb (length t) 16 && all lower_hex_digit t) (some (hex_from 0 t)) none
+moment_of t = pick (eqb (length t) 16 && all lower_hex_digit t) (Some (hex_from 0 t)) None
 
 -- when it is asked, and by whom
 pub record Asker : Type 0 where
@@ -19,7 +18,7 @@ pub record Asker : Type 0 where
 unfoldable pub asker_of : List ℕ → List ℕ → Option Asker
 asker_of moment client =
     pick (is_some (moment_of moment) && is_some (address_of client))
-    (some (record { moment = value_or 0 (moment_of moment); client = value_or [] (address_of client) })) none
+    (Some (record { moment = value_or 0 (moment_of moment); client = value_or [] (address_of client) })) None
 
 -- what is asked
 pub record Asked : Type 0 where
@@ -29,12 +28,12 @@ pub record Asked : Type 0 where
 unfoldable pub asked_of : List ℕ → List ℕ → Option Asked
 asked_of type name =
     pick (is_some (number_of largest_short type) && is_named (name_of name))
-    (some (record { type = value_or 0 (number_of largest_short type); name = wire_of name })) none
+    (Some (record { type = value_or 0 (number_of largest_short type); name = wire_of name })) None
 
 unfoldable pub question_from : Option Asker → Option Asked → Option Question
-question_from none asked = none
-question_from (some asker) none = none
-question_from (some asker) (some asked) = some (record { name = asked.name; type = asked.type; client = asker.client; moment = asker.moment })
+question_from None asked = None
+question_from (Some asker) None = None
+question_from (Some asker) (Some asked) = Some (record { name = asked.name; type = asked.type; client = asker.client; moment = asker.moment })
 
 -- four texts
 pub record Four : Type 0 where
@@ -44,16 +43,16 @@ pub record Four : Type 0 where
   pub name : List ℕ
 
 unfoldable pub four_of : List (List ℕ) → Option Four
-four_of [] = none
-four_of (m ∷ []) = none
-four_of (m ∷ c ∷ []) = none
-four_of (m ∷ c ∷ t ∷ []) = none
-four_of (m ∷ c ∷ t ∷ n ∷ []) = some (record { moment = m; client = c; type = t; name = n })
-four_of (m ∷ c ∷ t ∷ n ∷ more ∷ rest) = none
+four_of [] = None
+four_of (m ∷ []) = None
+four_of (m ∷ c ∷ []) = None
+four_of (m ∷ c ∷ t ∷ []) = None
+four_of (m ∷ c ∷ t ∷ n ∷ []) = Some (record { moment = m; client = c; type = t; name = n })
+four_of (m ∷ c ∷ t ∷ n ∷ more ∷ rest) = None
 
 unfoldable pub question_in : Option Four → Option Question
-question_in none = none
-question_in (some f) = question_from (asker_of f.moment f.client) (asked_of f.type f.name)
+question_in None = None
+question_in (Some f) = question_from (asker_of f.moment f.client) (asked_of f.type f.name)
 
 -- the pieces between the spaces
 unfoldable pub question_of : List ℕ → Option Question

@@ -1,6 +1,5 @@
 -- What the answers of the readers mean.
-use Rattle.std.specs.Prelude.{ℕ, ◌-◌, ◌≤◌, ◌≡◌, true, false, List, length, take, drop}
-use Rattle.std.proofs.Math.Option.{Option, none, some}
+use Rattle.std.specs.Prelude.{ℕ, ◌-◌, ◌≤◌, ◌≡◌, true, false, List, length, take, drop, Option, Some, None}
 use Rattle.rules.specs.Lists.{pick, split_on}
 use Rattle.rules.specs.Names.{name_of, wire_of}
 use Rattle.rules.specs.Questions.{Question}
@@ -17,11 +16,11 @@ use Rattle.questions.specs.declared.spans.Spans.{Spans}
 use Rattle.questions.specs.declared.questions.QuestionRead.{QuestionRead}
 
 abbrev pub moment_read : MomentRead → Option ℕ
-moment_read (MomentRead.Good moment) = some moment.0
-moment_read MomentRead.Bad = none
+moment_read (MomentRead.Good moment) = Some moment.0
+moment_read MomentRead.Bad = None
 
 unfoldable pub asker_read : AskerRead → Option Asker
-asker_read r = pick r.good (some (record { moment = r.moment.0; client = held_address r.client })) none
+asker_read r = pick r.good (Some (record { moment = r.moment.0; client = held_address r.client })) None
 
 pub record IsAsker (value : Option Asker) (r : AskerRead) : Type 0 where
   pub says : asker_read r ≡ value
@@ -38,7 +37,7 @@ pub record IsNameRead (text : List ℕ) (r : NameRead) : Type 0 where
   pub within : IsWithin r.name
 
 unfoldable pub asked_read : AskedRead → Option Asked
-asked_read r = pick r.good (some (record { type = r.qtype; name = held_name r.name })) none
+asked_read r = pick r.good (Some (record { type = r.qtype; name = held_name r.name })) None
 
 pub record IsAsked (value : Option Asked) (r : AskedRead) : Type 0 where
   pub says : asked_read r ≡ value
@@ -48,13 +47,13 @@ pub record IsAsked (value : Option Asked) (r : AskedRead) : Type 0 where
 unfoldable pub spans_read : List ℕ → Spans → Option Four
 spans_read line r =
     pick r.good
-    (some (record {
+    (Some (record {
       moment = take r.first line;
       client = take (r.second - r.client) (drop r.client line);
       type = take (r.third - r.qtype) (drop r.qtype line);
       name = take (length line - r.name) (drop r.name line);
     }))
-    none
+    None
 
 abbrev pub no_spans : Spans
 no_spans = record { good = false; first = 0; client = 0; second = 0; qtype = 0; third = 0; name = 0 }
@@ -73,7 +72,7 @@ abbrev pub held_question : QuestionRead → Question
 held_question r = record { name = held_name r.name; type = r.qtype; client = held_address r.client; moment = r.moment.0 }
 
 unfoldable pub question_read : QuestionRead → Option Question
-question_read r = pick r.good (some (held_question r)) none
+question_read r = pick r.good (Some (held_question r)) None
 
 pub record IsQuestion (value : Option Question) (r : QuestionRead) : Type 0 where
   pub says : question_read r ≡ value

@@ -1,6 +1,5 @@
 // A line's question.
-ghost use Rattle.std.specs.Prelude.{◌≡◌};
-ghost use Rattle.std.proofs.Math.Option.{none};
+ghost use Rattle.std.specs.Prelude.{◌≡◌, None};
 ghost use Rattle.addresses.specs.HeldAddress.{IsHeld};
 ghost use Rattle.rules.specs.Reading.{ask_response};
 ghost use Rattle.questions.specs.Questions.{asker_of, asked_of, question_from, question_of};
@@ -56,7 +55,7 @@ fn from_texts(moment: &[u8], client: &[u8], qtype: &[u8], name: &[u8]) -> Questi
 }
 
 fn no_question() -> QuestionRead
-    ensures { IsQuestion none result }
+    ensures { IsQuestion None result }
 {
     let client = AddressRead {
         bytes: [0u8; 16],

@@ -2,7 +2,7 @@
 use mathlib.Core.Path.{◌≡◌, refl, ap, ◌∙◌, sym}
 use mathlib.Core.Bool.{Bool, true, false, not, ◌&&◌, ◌||◌}
 use mathlib.Core.List.{List, [], ◌∷◌, map}
-use mathlib.Core.Option.{Option, none, some}
+use Rattle.std.specs.Prelude.{Option, Some, None}
 use Prim.Native.Nat.{ℕ}
 use native.Mathlib.Omega.{arith}
 use borrow.Author.Rules.{rules}
@@ -203,9 +203,9 @@ module _ (role : Role) (name here : List ℕ) (moment : ℕ) (key rdata : List �
   unrelated t q n = go (record_in key rdata) (shape key rdata)
     where
       go : (o : Option Record) → OnSome (Shape key rdata) o → 0 ≡ rank_in role name here moment o
-      go none s = refl
-      go (some (location prefix lo)) s = unfold visible pick in refl
-      go (some (resource owner type lo ttl time rd)) s =
+      go None s = refl
+      go (Some (location prefix lo)) s = unfold visible pick in refl
+      go (Some (resource owner type lo ttl time rd)) s =
           rw (by_key type ttl time lo rd role name key owner s.w s.owned s.good, no_role (sym q ∙ not-true t n) s.w type role) (sym (pick_same (visible here moment (resource owner type lo ttl time rd)) 0))
 
   module _ (seen : Seen) (e : seen_record key rdata seen ≡ record_in key rdata) where
@@ -248,7 +248,7 @@ module _ (name here : List ℕ) (moment : ℕ) (key rdata : List ℕ) where
   same_picked false n = refl
 
   -- an ordinary record of another name
-  pub other_name : (owner lo rd : List ℕ) (type ttl time : ℕ) → record_in key rdata ≡ some (resource owner type lo ttl time rd) → wild owner ≡ false → (length name ≡ length key → ⊥)
+  pub other_name : (owner lo rd : List ℕ) (type ttl time : ℕ) → record_in key rdata ≡ Some (resource owner type lo ttl time rd) → wild owner ≡ false → (length name ≡ length key → ⊥)
       → 0 ≡ rank_in Role.Level name here moment (record_in key rdata)
   unfolding rank_in seen_rank role_key_rank
   other_name owner lo rd type ttl time e o n = rw e (go s.w s.owned s.good)
@@ -277,7 +277,7 @@ module _ (name here : List ℕ) (moment : ℕ) (key rdata : List ℕ) where
   idle_rank Role.Control w type o = rw o
   idle_rank Role.Zone w type o = rw o
 
-  pub idle : (role : Role) (owner lo rd : List ℕ) (type ttl time : ℕ) → record_in key rdata ≡ some (resource owner type lo ttl time rd) → Idle role (wild owner) type
+  pub idle : (role : Role) (owner lo rd : List ℕ) (type ttl time : ℕ) → record_in key rdata ≡ Some (resource owner type lo ttl time rd) → Idle role (wild owner) type
       → 0 ≡ rank_in role name here moment (record_in key rdata)
   unfolding rank_in seen_rank
   idle role owner lo rd type ttl time e o =

@@ -1,6 +1,5 @@
 -- The level and the control name of a question by numbers: the rank of each record, and the records of the largest rank.
-use Rattle.std.specs.Prelude.{ℕ, ◌-◌, max, Bool, false, not, ◌&&◌, ◌||◌, List, [], ◌∷◌, length, drop, eqb}
-use Rattle.std.proofs.Math.Option.{Option, none, some}
+use Rattle.std.specs.Prelude.{ℕ, ◌-◌, max, Bool, false, not, ◌&&◌, ◌||◌, List, [], ◌∷◌, length, drop, eqb, Option, Some, None}
 use Rattle.rules.specs.Lists.{pick, keep, same_bytes}
 use Rattle.rules.specs.Records.{Record}
 use Rattle.rules.specs.Questions.{visible, ordinary_of, wildcard_of, ancestors, of_type}
@@ -64,5 +63,5 @@ unfoldable pub seen_rank : Role → List ℕ → List ℕ → ℕ → Record →
 seen_rank role name here moment r = pick (visible here moment r) (role_rank role name r) 0
 
 unfoldable pub rank_in : Role → List ℕ → List ℕ → ℕ → Option Record → ℕ
-rank_in role name here moment none = 0
-rank_in role name here moment (some r) = seen_rank role name here moment r
+rank_in role name here moment None = 0
+rank_in role name here moment (Some r) = seen_rank role name here moment r

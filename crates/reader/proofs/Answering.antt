@@ -1,11 +1,11 @@
 -- What the passes find by numbers is the answer of the rules.
+use Rattle.std.specs.Prelude.{slice_get}
 use mathlib.Core.Path.{◌≡◌, refl, ap, ◌∙◌, sym}
 use mathlib.Core.Bool.{Bool, true, false, ◌&&◌}
 use mathlib.Core.List.{List, [], ◌∷◌}
 use Prim.Native.Nat.{ℕ, ◌+◌, ◌<◌, ◌≤◌, max}
 use native.Mathlib.Omega.{arith}
 use borrow.Author.Tests.{ne_eqb, eqb-false}
-use lib.ListN.{get_elem?}
 use lib.Dec.{T, eqb, leb, leb→le}
 use Rattle.rules.specs.declared.replies.Outcome.{Outcome}
 use Rattle.rules.specs.declared.replies.Reply.{Reply}
@@ -80,7 +80,7 @@ largest_placed f at (r ∷ rs) = rw (largest_placed f (at + size r) rs)
 
 -- ---- lists and their first record
 
-first_found : (moment : ℕ) (ps : List Placed) → is_found (reply_of moment (get_elem? ps 0)) ≡ is_full ps
+first_found : (moment : ℕ) (ps : List Placed) → is_found (reply_of moment (slice_get ps 0)) ≡ is_full ps
 unfolding is_found reply_of is_full
 first_found moment [] = refl
 first_found moment (p ∷ ps) = refl
@@ -99,7 +99,7 @@ has_largest f n (p ∷ ps) h e = go (eqb (f p) n) refl (has_largest f n ps h)
         other d = omega arith
 
 level_said : (moment n : ℕ) (ls ws : List Placed) → T (is_full ls)
-    → pick (is_found (reply_of moment (get_elem? ws 0))) (said Outcome.Records (reply_of moment (get_elem? ws n))) (said Outcome.NoSuchType Reply.NoMore) ≡ response_of moment (by_level ls ws) n
+    → pick (is_found (reply_of moment (slice_get ws 0))) (said Outcome.Records (reply_of moment (slice_get ws n))) (said Outcome.NoSuchType Reply.NoMore) ≡ response_of moment (by_level ls ws) n
 unfolding is_full is_found reply_of response_of by_level said pick
 level_said moment n [] ws t = absurd t
 level_said moment n (l ∷ ls) [] t = refl
@@ -115,12 +115,12 @@ module _ (type : ℕ) (name here : List ℕ) (moment ordinal : ℕ) (rs : List R
   rank_is role = largest_seen role name here moment (placed_from 0 rs) ∙ largest_placed (seen_rank role name here moment) 0 rs
 
   module _ (role : Role) (best : ℕ) (z : 0 < best) (n : ℕ) where
-    picked_is : (t : ℕ) → picked_from t role name here moment best 0 n rs ≡ reply_of moment (get_elem? (keep (λ p. of_type t p.rec) (ranked (role_rank role name) best seen)) n)
+    picked_is : (t : ℕ) → picked_from t role name here moment best 0 n rs ≡ reply_of moment (slice_get (keep (λ p. of_type t p.rec) (ranked (role_rank role name) best seen)) n)
     unfolding picked_from
     picked_is t = rw (all_wanted role name here moment best z t (placed_from 0 rs))
 
-    any_is : picked_from 255 role name here moment best 0 n rs ≡ reply_of moment (get_elem? (ranked (role_rank role name) best seen) n)
-    any_is = picked_is 255 ∙ ap (λ (l : List Placed). reply_of moment (get_elem? l n)) (any_type role name here moment best z (placed_from 0 rs))
+    any_is : picked_from 255 role name here moment best 0 n rs ≡ reply_of moment (slice_get (ranked (role_rank role name) best seen) n)
+    any_is = picked_is 255 ∙ ap (λ (l : List Placed). reply_of moment (slice_get l n)) (any_type role name here moment best z (placed_from 0 rs))
 
   found_any : (role : Role) (best : ℕ) → 0 < best → is_found (picked_from 255 role name here moment best 0 0 rs) ≡ is_full (ranked (role_rank role name) best seen)
   found_any role best z = ap is_found (any_is role best z 0) ∙ first_found moment (ranked (role_rank role name) best seen)

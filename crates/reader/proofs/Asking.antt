@@ -2,7 +2,7 @@
 use mathlib.Core.Path.{◌≡◌, refl, ◌∙◌, sym}
 use mathlib.Core.Bool.{Bool, true, false, not}
 use mathlib.Core.List.{List, [], ◌∷◌, map}
-use mathlib.Core.Option.{Option, none, some}
+use Rattle.std.specs.Prelude.{Option, Some, None}
 use Prim.Native.Nat.{ℕ, ◌+◌, ◌<◌, ◌≤◌}
 use native.Mathlib.Omega.{arith}
 use borrow.Author.Rules.{rules}
@@ -56,13 +56,13 @@ replied q ordinal rs w =
 module _ (client : List ℕ) (here : Lo) (from until first last : ℕ) where
   located : (o : Option (List Record)) → judged_lo (Judged.Whole here from until first last) ≡ located_in client o → is_some o ≡ true
   unfolding judged_lo located_in is_some
-  located none e = let z : ◌≡◌ {A = ℕ} 0 1 = cc in absurd (omega arith)
-  located (some rs) e = refl
+  located None e = let z : ◌≡◌ {A = ℕ} 0 1 = cc in absurd (omega arith)
+  located (Some rs) e = refl
 
   located_here : (o : Option (List Record)) → judged_lo (Judged.Whole here from until first last) ≡ located_in client o → lo_bytes here ≡ location_of client (value_or [] o)
   unfolding judged_lo located_in value_or
-  located_here none e = let z : ◌≡◌ {A = ℕ} 0 1 = cc in absurd (omega arith)
-  located_here (some rs) e = cc
+  located_here None e = let z : ◌≡◌ {A = ℕ} 0 1 = cc in absurd (omega arith)
+  located_here (Some rs) e = cc
 
 module _ (stream client : List ℕ) (j : Judged) (e : judged_lo j ≡ located_in client (decode stream)) where
   pub judged_whole : (here : Lo) (from until first last : ℕ) → j ≡ Judged.Whole here from until first last → is_some (decode stream) ≡ true
@@ -72,8 +72,8 @@ module _ (stream client : List ℕ) (j : Judged) (e : judged_lo j ≡ located_in
   not_whole q ordinal w = go (decode stream) (rw w at e)
     where
       go : (o : Option (List Record)) → judged_lo Judged.Broken ≡ located_in client o → refusal AskFault.Records ≡ response_decoded o q ordinal
-      go none e = unfold response_decoded in refl
-      go (some rs) e = unfold judged_lo located_in in (let z : ◌≡◌ {A = ℕ} 0 1 = cc in absurd (omega arith))
+      go None e = unfold response_decoded in refl
+      go (Some rs) e = unfold judged_lo located_in in (let z : ◌≡◌ {A = ℕ} 0 1 = cc in absurd (omega arith))
 
   whole_reply : (q : Question) (ordinal : ℕ) (here : Lo) (from until first last : ℕ) (r : Response) → is_wire q.name ≡ true → q.client ≡ client → j ≡ Judged.Whole here from until first last
       → r ≡ answered_from q.type (map lower q.name) (lo_bytes here) q.moment ordinal (value_or [] (decode stream)) → r ≡ response_decoded (decode stream) q ordinal
@@ -81,8 +81,8 @@ module _ (stream client : List ℕ) (j : Judged) (e : judged_lo j ≡ located_in
     where
       go : (o : Option (List Record)) → judged_lo (Judged.Whole here from until first last) ≡ located_in client o
           → r ≡ answered_from q.type (map lower q.name) (lo_bytes here) q.moment ordinal (value_or [] o) → r ≡ response_decoded o q ordinal
-      go none e a = unfold judged_lo located_in in (let z : ◌≡◌ {A = ℕ} 0 1 = cc in absurd (omega arith))
-      go (some rs) e a = unfold response_decoded in (a ∙ rw (located_here client here from until first last (some rs) e, ← k) (unfold value_or in sym (replied q ordinal rs n)))
+      go None e a = unfold judged_lo located_in in (let z : ◌≡◌ {A = ℕ} 0 1 = cc in absurd (omega arith))
+      go (Some rs) e a = unfold response_decoded in (a ∙ rw (located_here client here from until first last (Some rs) e, ← k) (unfold value_or in sym (replied q ordinal rs n)))
 
 module _ (name stream : List ℕ) (j : Judged) (here : Lo) (from until first last : ℕ) (s : Covered name stream j) (w : j ≡ Judged.Whole here from until first last) where
   judged_covers : Covers Role.Level name stream from until × Covers Role.Control name stream first last × Covers Role.Zone name stream first last

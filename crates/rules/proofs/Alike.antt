@@ -3,8 +3,8 @@ use mathlib.Core.Path.{◌≡◌, refl, sym, ap, ◌∙◌}
 use Prim.Native.Nat.{ℕ, zero, suc, ◌+◌}
 use mathlib.Core.Bool.{Bool, true, false}
 use mathlib.Core.List.{List, [], ◌∷◌, map, nil≢cons, cons≢nil, head-eq_of_cons-eq, tail-eq_of_cons-eq}
-use mathlib.Core.Option.{some}
-use lib.ListN.{length, get_elem?}
+use Rattle.std.specs.Prelude.{Some, slice_get}
+use lib.ListN.{length}
 use Rattle.rules.specs.declared.replies.AskFault.{AskFault}
 use Rattle.rules.specs.declared.replies.Response.{Response}
 use Rattle.rules.specs.declared.replies.Reply.{Reply}
@@ -102,7 +102,7 @@ module _ (x y : List ℕ) where
   SameReply r s = (without_place r ≡ without_place s) × (handed x r ≡ handed y s)
 
   same_found : (moment : ℕ) (p p' : Placed) → p.rec ≡ p'.rec → Held x p → Held y p'
-      → SameReply (reply_of moment (some p)) (reply_of moment (some p'))
+      → SameReply (reply_of moment (Some p)) (reply_of moment (Some p'))
   unfolding reply_of without_place handed Held
   same_found moment p p' e h k = (
     ap (λ (r : Record). Reply.Found (type_of r) (record { 0 = lifetime_of moment r }) 0 (length (rdata_of r))) e,
@@ -111,7 +111,7 @@ module _ (x y : List ℕ) where
 
   same_at : (moment : ℕ) {ps qs : List Placed} → All (Held x) ps → All (Held y) qs
       → map (λ p. p.rec) ps ≡ map (λ p. p.rec) qs → (n : ℕ)
-      → SameReply (reply_of moment (get_elem? ps n)) (reply_of moment (get_elem? qs n))
+      → SameReply (reply_of moment (slice_get ps n)) (reply_of moment (slice_get qs n))
   same_at moment nil nil e n = unfold reply_of handed in (refl, refl)
   same_at moment nil (cons k b) e n = absurd (nil≢cons e)
   same_at moment (cons h a) nil e n = absurd (cons≢nil e)

@@ -3,7 +3,7 @@ use mathlib.Core.Path.{◌≡◌, refl}
 use Prim.Native.Nat.{ℕ}
 use mathlib.Core.Bool.{Bool, true, false, not, ◌||◌}
 use mathlib.Core.List.{List, [], ◌∷◌}
-use mathlib.Core.Option.{Option, none, some}
+use Rattle.std.specs.Prelude.{Option, Some, None}
 use lib.Dec.{T, eqb}
 use Rattle.rules.specs.declared.kinds.Kind.{Kind}
 use Rattle.rules.specs.declared.quantities.Shared.{Shared}
@@ -70,9 +70,9 @@ module _ (serial : ℕ) (fields : List (List ℕ)) where
 
 -- what a stripped line gives: nothing, a location, or records that carry its time and lo
 pub data Says (rs : List Record) : Bool → Option Shared → Type 0 where
-  nothing : {b : Bool} → rs ≡ [] → Says rs b none
-  place : All Located rs → Says rs true none
-  shares : {b : Bool} (s : Shared) → T (not b) → All (Carries s) rs → Says rs b (some s)
+  nothing : {b : Bool} → rs ≡ [] → Says rs b None
+  place : All Located rs → Says rs true None
+  shares : {b : Bool} (s : Shared) → T (not b) → All (Carries s) rs → Says rs b (Some s)
 
 -- the kinds behind the first test of `kind_of`
 other_kind : ℕ → Kind
@@ -102,7 +102,7 @@ other_kind_lem b =
 module _ (serial : ℕ) where
   by_tests : (fields : List (List ℕ)) (i p : Bool) (x : Kind) → Other x
       → Says (pick i [] (records_of serial (pick p Kind.Location x) fields)) p
-      (pick (i || p) none (some (shared_of (pick p Kind.Location x) fields)))
+      (pick (i || p) None (Some (shared_of (pick p Kind.Location x) fields)))
   unfolding pick records_of
   by_tests fields true p x o = nothing refl
   by_tests fields false true x o = place (cons located nil)

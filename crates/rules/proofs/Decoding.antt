@@ -4,7 +4,7 @@ use Prim.Native.Nat.{ℕ, zero, suc, ◌+◌, ◌≤◌, ◌<◌}
 use native.Mathlib.Omega.{arith}
 use mathlib.Core.Bool.{Bool, true, false, not, ◌&&◌}
 use mathlib.Core.List.{List, [], ◌∷◌, ◌++◌, map, append_assoc}
-use mathlib.Core.Option.{Option, none, some}
+use Rattle.std.specs.Prelude.{Option, Some, None}
 use lib.ListN.{length, drop, length-append, length-map, length-drop}
 use lib.Seq.{take-append_seam, drop-append_seam}
 use lib.Dec.{T, leb, ltb, eqb, le→leb}
@@ -80,27 +80,27 @@ canonical (location p lo) = location p lo
 canonical (resource owner type lo ttl time rd) = resource (map lower owner) type lo ttl time rd
 
 module _ (type : ℕ) (ttl time : ℕ) (rd : List ℕ) (typed : type < 65536) (lived : ttl ≤ 2147483647) (timed : time < 9223372036854775808) where
-  fixed_back : (owner lo : List ℕ) → behind_lo owner type lo (be 4 ttl ++ be 8 time ++ rd) ≡ some (resource owner type lo ttl time rd)
+  fixed_back : (owner lo : List ℕ) → behind_lo owner type lo (be 4 ttl ++ be 8 time ++ rd) ≡ Some (resource owner type lo ttl time rd)
   unfolding behind_lo be largest_ttl moment_end
   fixed_back owner lo =
       let rest : List ℕ = be 4 ttl ++ be 8 time ++ rd in
       let long : 12 ≤ length rest = omega arith in
-      ap₂ (λ (a b : ℕ). pick (leb 12 (length rest) && leb a 2147483647 && ltb b 9223372036854775808) (some (resource owner type lo a b rd)) none)
+      ap₂ (λ (a b : ℕ). pick (leb 12 (length rest) && leb a 2147483647 && ltb b 9223372036854775808) (Some (resource owner type lo a b rd)) None)
       (from_be_lem 4 {n = ttl} (omega arith)) (from_be_lem 8 {n = time} (omega arith))
       ∙ pick_yes _ _ _ (search passes)
 
-  fixed_when : (b : Bool) (owner lo : List ℕ) → T b → pick b (behind_lo owner (from_be 0 (be 2 type)) lo (be 4 ttl ++ be 8 time ++ rd)) none ≡ some (resource owner type lo ttl time rd)
+  fixed_when : (b : Bool) (owner lo : List ℕ) → T b → pick b (behind_lo owner (from_be 0 (be 2 type)) lo (be 4 ttl ++ be 8 time ++ rd)) None ≡ Some (resource owner type lo ttl time rd)
   fixed_when b owner lo t = pick_yes b _ _ t ∙ ap (λ (n : ℕ). behind_lo owner n lo (be 4 ttl ++ be 8 time ++ rd)) (from_be_lem 2 (omega arith)) ∙ fixed_back owner lo
 
   -- an ordinary owner's data, and a wildcard's
-  plain_back : (k lo : List ℕ) → T (ordinary_key k) → LoOrNone lo → resource_in k (be 2 type ++ flag_and_lo false lo ++ be 4 ttl ++ be 8 time ++ rd) ≡ some (resource k type lo ttl time rd)
+  plain_back : (k lo : List ℕ) → T (ordinary_key k) → LoOrNone lo → resource_in k (be 2 type ++ flag_and_lo false lo ++ be 4 ttl ++ be 8 time ++ rd) ≡ Some (resource k type lo ttl time rd)
   unfolding resource_in by_flag be flag_and_lo is_lo with_lo pick
   plain_back k [] o l = fixed_when (ordinary_key k) k [] o
   plain_back k (a ∷ []) o l = absurd l
   plain_back k (a ∷ b ∷ []) o l = pick_yes (ordinary_key k) _ _ o ∙ fixed_when (is_lo (a ∷ b ∷ [])) k (a ∷ b ∷ []) l
   plain_back k (a ∷ b ∷ c ∷ r) o l = absurd l
 
-  wild_back : (k lo : List ℕ) → T (wildcard_key k) → LoOrNone lo → resource_in k (be 2 type ++ flag_and_lo true lo ++ be 4 ttl ++ be 8 time ++ rd) ≡ some (resource (1 ∷ 42 ∷ k) type lo ttl time rd)
+  wild_back : (k lo : List ℕ) → T (wildcard_key k) → LoOrNone lo → resource_in k (be 2 type ++ flag_and_lo true lo ++ be 4 ttl ++ be 8 time ++ rd) ≡ Some (resource (1 ∷ 42 ∷ k) type lo ttl time rd)
   unfolding resource_in by_flag be flag_and_lo is_lo with_lo pick
   wild_back k [] o l = fixed_when (wildcard_key k) (1 ∷ 42 ∷ k) [] o
   wild_back k (a ∷ []) o l = absurd l
@@ -150,12 +150,12 @@ wild_key k t =
     let n : length (map lower k) ≤ 253 = rw length-map (omega arith) in
     search passes
 
-pub record_back : (r : Record) → Ok r → record_in (key_of r) (data_of r) ≡ some (canonical r)
+pub record_back : (r : Record) → Ok r → record_in (key_of r) (data_of r) ≡ Some (canonical r)
 unfolding key_of unstarred data_of fixed_of rdata_of canonical record_in location_in
 record_back (location p lo) (ok_location s g) = pick_yes _ _ _ (yes_and (leb (length p) 4) (is_lo lo) (yes_leb s) g)
 record_back (resource owner type lo ttl time rd) (ok_resource s) = back (wild owner) refl
   where
-    back : (w : Bool) → wild owner ≡ w → record_in (map lower (pick (wild owner) (drop 2 owner) owner)) (be 2 type ++ flag_and_lo (wild owner) lo ++ be 4 ttl ++ be 8 time ++ rd) ≡ some (resource (map lower owner) type lo ttl time rd)
+    back : (w : Bool) → wild owner ≡ w → record_in (map lower (pick (wild owner) (drop 2 owner) owner)) (be 2 type ++ flag_and_lo (wild owner) lo ++ be 4 ttl ++ be 8 time ++ rd) ≡ Some (resource (map lower owner) type lo ttl time rd)
     back false e = unfold pick in
         let o : T (ordinary_key (map lower owner)) = plain_key owner s.owned e in
         rw e (by_name (map lower owner) _ (unfold ordinary_key is_wire longest_name in search tests)
@@ -166,7 +166,7 @@ record_back (resource owner type lo ttl time rd) (ok_resource s) = back (wild ow
         let o : T (wildcard_key k) = wild_key (drop 2 owner) (subst Wire is s.owned) in
         rw e (by_name k _ (unfold wildcard_key is_wire longest_name in search tests)
         ∙ wild_back type ttl time rd s.typed s.lived s.timed k lo o s.coded
-        ∙ ap (λ (n : List ℕ). some (resource (map lower n) type lo ttl time rd)) (sym is))
+        ∙ ap (λ (n : List ℕ). Some (resource (map lower n) type lo ttl time rd)) (sym is))
 
 -- ---- all records
 
@@ -211,7 +211,7 @@ decode_one_lem r f rest ok =
     ∙ ap₂ (λ (k d : ℕ). decode_one k d (key_of r ++ data_of r ++ rest) (decode_from f)) (from_le_lem 4 {n = length (key_of r)} (omega (arith, key_short r ok))) (from_le_lem 4 {n = length (data_of r)} (omega (arith, data_short r ok)))
     ∙ one_back (key_of r) (data_of r) rest (decode_from f)
 
-decode_all : (f : ℕ) {rs : List Record} → All Ok rs → length rs ≤ f → decode_from f (bytes_of rs) ≡ some (map canonical rs)
+decode_all : (f : ℕ) {rs : List Record} → All Ok rs → length rs ≤ f → decode_from f (bytes_of rs) ≡ Some (map canonical rs)
 unfolding bytes_of join_all onto_records decode_from
 decode_all zero nil h = refl
 decode_all (suc f) nil h = refl
@@ -227,6 +227,6 @@ unfolding bytes_of join_all size
 fuel [] = omega arith
 fuel (r ∷ rs) = simp length-append (omega (arith, size_is r, fuel rs))
 
-pub decode_back : {rs : List Record} → All Ok rs → decode (bytes_of rs) ≡ some (map canonical rs)
+pub decode_back : {rs : List Record} → All Ok rs → decode (bytes_of rs) ≡ Some (map canonical rs)
 unfolding decode
 decode_back {rs} a = decode_all _ a (fuel rs)

@@ -4,7 +4,7 @@ use Prim.Native.Nat.{ℕ, ◌*◌, ◌≤◌, ◌<◌}
 use native.Mathlib.Omega.{arith}
 use mathlib.Core.Bool.{Bool, not}
 use mathlib.Core.List.{List, [], ◌∷◌}
-use mathlib.Core.Option.{Option, none, some}
+use Rattle.std.specs.Prelude.{Option, Some, None}
 use lib.ListN.{length}
 use lib.Dec.{T}
 use Rattle.rules.specs.declared.faults.Fault.{Fault}
@@ -22,10 +22,10 @@ use Rattle.rules.proofs.Lists.{OnSome, length_join}
 use Rattle.rules.proofs.Numbers.{length_be}
 use Rattle.rules.proofs.Names.{Wire, OnName, name_ok, label_ok}
 
-value_ok {ℓ} : {A : Type ℓ} (P : A → Type 0) (x : A) (o : Option A) → P x → OnSome P o → P (value_or x o)
+value_ok : {A : Type 0} (P : A → Type 0) (x : A) (o : Option A) → P x → OnSome P o → P (value_or x o)
 unfolding value_or
-value_ok P x none h k = h
-value_ok P x (some y) h k = k
+value_ok P x None h k = h
+value_ok P x (Some y) h k = k
 
 -- ---- numbers
 
@@ -79,9 +79,9 @@ pub lo_of_lem : (l : List ℕ) → T (is_lo l) → LoOrNone l
 lo_of_lem [] t = tt
 lo_of_lem (a ∷ l) t = t
 
-on_some {ℓ} : {A : Type ℓ} {P Q : A → Type 0} → ((a : A) → P a → Q a) → (o : Option A) → OnSome P o → OnSome Q o
-on_some f none h = tt
-on_some f (some a) h = f a h
+on_some : {A : Type 0} {P Q : A → Type 0} → ((a : A) → P a → Q a) → (o : Option A) → OnSome P o → OnSome Q o
+on_some f None h = tt
+on_some f (Some a) h = f a h
 
 pub lo_ok : (t : List ℕ) → LoOrNone (lo_bytes (value_or Lo.Every (lo_of t)))
 unfolding lo_bytes
@@ -91,8 +91,8 @@ lo_ok t = value_ok (λ lo. LoOrNone (lo_bytes lo)) Lo.Every (lo_of t) tt (on_som
 
 onto_short : (m n b : ℕ) (o : Option (List ℕ)) → m < n → OnSome (λ t. length t ≤ m) o → OnSome (λ t. length t ≤ n) (onto_text b o)
 unfolding onto_text
-onto_short m n b none k h = tt
-onto_short m n b (some t) k h = omega (arith, h)
+onto_short m n b None k h = tt
+onto_short m n b (Some t) k h = omega (arith, h)
 
 text_read : (t : List ℕ) → OnSome (λ b. length b ≤ length t) (text_of t)
 unfolding text_of
@@ -120,15 +120,15 @@ unfolding needed is_done
 needed_done k [] f d = absurd d
 needed_done k (b ∷ t) f d = d
 
-unless_done {ℓ} : {A : Type ℓ} (P : A → Type 0) (x : A) (k : FieldKind) (o : Option A) → T (is_done (unless k o)) → OnSome P o → P (value_or x o)
+unless_done : {A : Type 0} (P : A → Type 0) (x : A) (k : FieldKind) (o : Option A) → T (is_done (unless k o)) → OnSome P o → P (value_or x o)
 unfolding unless is_done value_or
-unless_done P x FieldKind.Name none t h = absurd t
-unless_done P x FieldKind.Address none t h = absurd t
-unless_done P x FieldKind.Number none t h = absurd t
-unless_done P x FieldKind.Time none t h = absurd t
-unless_done P x FieldKind.Lo none t h = absurd t
-unless_done P x FieldKind.Escape none t h = absurd t
-unless_done P x k (some y) t h = h
+unless_done P x FieldKind.Name None t h = absurd t
+unless_done P x FieldKind.Address None t h = absurd t
+unless_done P x FieldKind.Number None t h = absurd t
+unless_done P x FieldKind.Time None t h = absurd t
+unless_done P x FieldKind.Lo None t h = absurd t
+unless_done P x FieldKind.Escape None t h = absurd t
+unless_done P x k (Some y) t h = h
 
 module _ (t : List ℕ) where
   pub owner_wire : T (is_done (fault_of Meaning.Owner t)) → Wire (wire_of t)

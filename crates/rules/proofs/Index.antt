@@ -3,7 +3,7 @@ use mathlib.Core.Path.{◌≡◌, refl, sym, ap, ap₂, ◌∙◌}
 use Prim.Native.Nat.{ℕ}
 use mathlib.Core.Bool.{Bool, true, false, not, ◌||◌}
 use mathlib.Core.List.{List, [], ◌∷◌, map}
-use mathlib.Core.Option.{Option, none, some}
+use Rattle.std.specs.Prelude.{Option, Some, None}
 use lib.Dec.{T}
 use mir.Facts.{T_not}
 use Rattle.rules.specs.Lists.{pick, keep, any, lower}
@@ -111,8 +111,8 @@ module _ (chosen : Record → Bool) (name : List ℕ) (covers : Covers chosen na
   control_by : (type : ℕ) (ps : List Placed) (o : Option (List ℕ)) → OnSome (λ n. Has chosen (ordinary_of n)) o
       → by_control type name (only ps) o ≡ by_control type name ps o
   unfolding by_control
-  control_by type ps none h = refl
-  control_by type ps (some control) h = rw (typed_only 6 control h ps, typed_only 2 control h ps, level_only control ps)
+  control_by type ps None h = refl
+  control_by type ps (Some control) h = rw (typed_only 6 control h ps, typed_only 2 control h ps, level_only control ps)
 
 only_these : (q : Question) (chosen : Record → Bool) → Covers chosen (map lower q.name) → (ps : List Placed)
     → answers q (keep (λ p. chosen p.rec) ps) ≡ answers q ps

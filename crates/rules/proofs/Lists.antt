@@ -4,18 +4,18 @@ use Prim.Native.Nat.{ℕ, zero, suc, ◌*◌, ◌≤◌}
 use native.Mathlib.Omega.{arith}
 use mathlib.Core.Bool.{Bool, true, false}
 use mathlib.Core.List.{List, [], ◌∷◌, ◌++◌, map, append_assoc}
-use mathlib.Core.Option.{Option, none, some}
-use lib.ListN.{length, get_or, get_elem?, length-append}
+use Rattle.std.specs.Prelude.{Option, Some, None, slice_get}
+use lib.ListN.{length, get_or, length-append}
 use lib.Dec.{T, eqb}
 use mir.Facts.{yes_and}
 use Rattle.rules.specs.Lists.{keep, all, join_all, onto_first, split_on, same_bytes}
 use Rattle.rules.proofs.Tests.{and_l, and_r, pick_ok, pick_ap}
 
 -- what is there, if anything is, has P
-module _ {ℓ κ} {A : Type ℓ} where
+module _ {κ} {A : Type 0} where
   abbrev pub OnSome : (A → Type κ) → Option A → Type κ
-  OnSome P none = Unit {κ}
-  OnSome P (some a) = P a
+  OnSome P None = Unit {κ}
+  OnSome P (Some a) = P a
 
 pub data All {ℓ} {A : Type ℓ} (P : A → Type 0) : List A → Type ℓ where
   nil : All P []
@@ -41,10 +41,10 @@ module _ {ℓ} {A : Type ℓ} {P : A → Type 0} where
   all_weaken f nil = nil
   all_weaken f (cons {x = x} h a) = cons (f x h) (all_weaken f a)
 
-  pub all_at : (n : ℕ) {xs : List A} → All P xs → OnSome P (get_elem? xs n)
-  all_at n nil = tt
-  all_at zero (cons h a) = h
-  all_at (suc n) (cons h a) = all_at n a
+pub all_at : {A : Type 0} {P : A → Type 0} (n : ℕ) {xs : List A} → All P xs → OnSome P (slice_get xs n)
+all_at n nil = tt
+all_at zero (cons h a) = h
+all_at (suc n) (cons h a) = all_at n a
 
 pub all_of {ℓ} : {A : Type ℓ} (p : A → Bool) (xs : List A) → T (all p xs) → All (λ x. T (p x)) xs
 unfolding all

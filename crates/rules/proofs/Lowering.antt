@@ -1,8 +1,9 @@
 -- Lowering the owners of records changes no answer.
+use Rattle.std.specs.Prelude.{slice_get}
 use mathlib.Core.Path.{◌≡◌, refl}
 use Prim.Native.Nat.{ℕ, zero, suc, ◌+◌}
 use mathlib.Core.List.{List, [], ◌∷◌, map}
-use lib.ListN.{drop, get_elem?}
+use lib.ListN.{drop}
 use Rattle.rules.specs.Lists.{lower}
 use Rattle.rules.specs.Records.{Record, location, resource}
 use Rattle.rules.specs.Bytes.{unstarred, key_of, rdata_of, fixed_of, data_of, size}
@@ -88,7 +89,7 @@ unfolding rdata_of canonical
 same_rdata (location p lo) = refl
 same_rdata (resource o t lo ttl time rd) = refl
 
-reply_lower : (m : ℕ) (ps : List Placed) (n : ℕ) → reply_of m (get_elem? (map lower_placed ps) n) ≡ reply_of m (get_elem? ps n)
+reply_lower : (m : ℕ) (ps : List Placed) (n : ℕ) → reply_of m (slice_get (map lower_placed ps) n) ≡ reply_of m (slice_get ps n)
 unfolding lower_placed reply_of
 reply_lower m [] n = refl
 reply_lower m (p ∷ ps) zero = rw (same_type_of, same_lifetime, same_rdata)

@@ -5,8 +5,8 @@ use Prim.Native.Nat.{ℕ, ◌+◌, ◌-◌, ◌≤◌, ◌<◌}
 use native.Mathlib.Omega.{arith}
 use mathlib.Core.Bool.{Bool, true, false, not, ◌||◌}
 use mathlib.Core.List.{List, [], ◌∷◌, ◌++◌, map, append_assoc}
-use mathlib.Core.Option.{Option, none, some}
-use lib.ListN.{length, take, drop, get_elem?, length-append}
+use Rattle.std.specs.Prelude.{Option, Some, None, slice_get}
+use lib.ListN.{length, take, drop, length-append}
 use lib.Seq.{take_at, take-append_seam, drop-append_seam}
 use lib.Dec.{T, leb, eqb}
 use lib.Arith.{lt→nleb}
@@ -69,8 +69,8 @@ by_level_all (p ∷ ps) (cons h a) = cons h a
 
 by_control_all : {P : Placed → Type 0} (t : ℕ) (n : List ℕ) {ps : List Placed} (c : Option (List ℕ)) → All P ps → All P (by_control t n ps c).list
 unfolding by_control in_zone ordinary_of_type
-by_control_all t n none a = nil
-by_control_all {P} t n {ps} (some c) a =
+by_control_all t n None a = nil
+by_control_all {P} t n {ps} (Some c) a =
     pick_ok (λ (r : Result). All P r.list) _ (λ h. by_level_all (level c n ps) (all_keep _ (level_all c n a))) (λ h. all_keep _ a)
 
 pub answers_all : {P : Placed → Type 0} (q : Question) {ps : List Placed} → All P ps → All P (answers q ps).list
@@ -144,8 +144,8 @@ written source serial out a room =
 
 gives : (stream : List ℕ) (q : Question) (o : Option Placed) → OnSome (Held stream) o → Gives stream q.moment o (reply_of q.moment o)
 unfolding reply_of Held
-gives stream q none h = refl
-gives stream q (some p) h = record { place = _; count = _; found = refl; rdata = h.0; ends = h.1 }
+gives stream q None h = refl
+gives stream q (Some p) h = record { place = _; count = _; found = refl; rdata = h.0; ends = h.1 }
 
 pub keeps_the_meaning : CompilingKeepsTheMeaning
 unfolding CompilingKeepsTheMeaning response_from response_of
@@ -154,4 +154,4 @@ keeps_the_meaning source serial out q n a room name moment client =
     let list : List Placed = (answers q (placed_from 0 rs)).list in
     let same : ask_response (bytes_of rs) q n ≡ response_from rs q n = asked q n (source_ok serial source a) name moment client in
     rw (written source serial out a room)
-    (subst (Tells (bytes_of rs) rs q n) (sym same) (record { outcome = refl; list = gives (bytes_of rs) q (get_elem? list n) (all_at n (answers_all q (held [] 0 rs refl))) }))
+    (subst (Tells (bytes_of rs) rs q n) (sym same) (record { outcome = refl; list = gives (bytes_of rs) q (slice_get list n) (all_at n (answers_all q (held [] 0 rs refl))) }))

@@ -4,9 +4,9 @@ use Prim.Native.Nat.{ℕ, zero, suc, ◌+◌, ◌-◌, ◌≤◌, ◌<◌}
 use native.Mathlib.Omega.{arith}
 use mathlib.Core.Bool.{Bool, true, false, not, ◌&&◌, ◌||◌}
 use mathlib.Core.List.{List, [], ◌∷◌, map}
-use mathlib.Core.Option.{Option, none, some}
+use Rattle.std.specs.Prelude.{Option, Some, None, slice_get}
 use mathlib.Core.Logic.{◌⊎◌, inl, inr}
-use lib.ListN.{length, get_elem?}
+use lib.ListN.{length}
 use lib.Dec.{T, leb, ltb, eqb, leb→le, ltb→lt, le→leb, lt→ltb, eqb-suc-zero}
 use lib.Arith.{lt→nleb, le→nltb}
 use mir.Facts.{or_yes}
@@ -65,7 +65,7 @@ module _ (earlier later : ℕ) (ordered : earlier ≤ later) where
   location_same_seen here (location p lo) h = refl
   location_same_seen here (resource _ _ _ _ _ _) h = elim h [ ]
 
-  quiet_same_seen : (here : List ℕ) (s : Shared) (r : Record) → T (quiet_line earlier later (some s)) → Carries s r
+  quiet_same_seen : (here : List ℕ) (s : Shared) (r : Record) → T (quiet_line earlier later (Some s)) → Carries s r
       → SameSeen here r
   unfolding SameSeen visible quiet_line
   quiet_same_seen here s (resource owner type lo ttl time rdata) t (carries e f) =
@@ -137,8 +137,8 @@ SameReply o r s = (without_lifetime r ≡ without_lifetime s) × (T (lasts o) �
 
 same_reply : (m n : ℕ) (o : Option Placed) → SameReply o (reply_of m o) (reply_of n o)
 unfolding reply_of without_lifetime lasts
-same_reply m n none = (refl, λ t. refl)
-same_reply m n (some p) =
+same_reply m n None = (refl, λ t. refl)
+same_reply m n (Some p) =
     let place : ℕ = p.end - length (rdata_of p.rec) in
     let found : ℕ → Reply = λ l. Reply.Found (type_of p.rec) (record { 0 = l }) place (length (rdata_of p.rec)) in
     (refl, λ t. ap found (lifetime_same m n p.rec t))
@@ -173,7 +173,7 @@ between_times_asked_alike q earlier later n serial source out ok room ordered li
     let result : Result = result_from (source_records serial source) (asked_at later q) in
     let same : result_from (source_records serial source) (asked_at earlier q) ≡ result =
     (between_times_nothing_changes q earlier later serial source ordered t).result in
-    let handed : Option Placed = get_elem? result.list n in
+    let handed : Option Placed = slice_get result.list n in
     rw
     (written source serial out ok room, asked_in_time q earlier n good (omega arith), asked_in_time q later n good limit, same)
     (same_refused handed _ _ _ _ (same_refused handed _ _ _ _ (same_response handed result _ _ (same_reply earlier later handed))))

@@ -4,7 +4,7 @@ use Prim.Native.Nat.{ℕ, zero, suc, ◌<◌, ◌≤◌}
 use native.Mathlib.Omega.{arith}
 use mathlib.Core.Bool.{Bool, true, false, ◌&&◌}
 use mathlib.Core.List.{List, [], ◌∷◌, ◌++◌, map}
-use mathlib.Core.Option.{Option, none, some}
+use Rattle.std.specs.Prelude.{Option, Some, None}
 use borrow.Author.Tests.{le-leb, lt-leb, leb-false}
 use lib.Dec.{T, leb}
 use lib.ListN.{length}
@@ -21,7 +21,7 @@ pub names_without_control_are_not_ours : NamesWithoutControlAreNotOurs
 unfolding NamesWithoutControlAreNotOurs answers control_name visible_to by_control
 names_without_control_are_not_ours q ps e = rw e
 
-no_soa : (type : ℕ) (name : List ℕ) (ps : List Placed) (c : List ℕ) → ordinary_of_type 6 c ps ≡ [] → by_control type name ps (some c) ≡ record { outcome = Outcome.Referral; list = ordinary_of_type 2 c ps }
+no_soa : (type : ℕ) (name : List ℕ) (ps : List Placed) (c : List ℕ) → ordinary_of_type 6 c ps ≡ [] → by_control type name ps (Some c) ≡ record { outcome = Outcome.Referral; list = ordinary_of_type 2 c ps }
 unfolding by_control is_full pick
 no_soa type name ps c e = rw e
 
@@ -50,8 +50,8 @@ control_has ps (n ∷ ns) =
 
 control_fits : (type : ℕ) (name : List ℕ) (ps : List Placed) (o : Option (List ℕ)) → OnSome (λ c. T (is_full (ordinary_of_type 2 c ps))) o → Fits (by_control type name ps o)
 unfolding by_control in_zone
-control_fits type name ps none h = unfold is_full in refl
-control_fits type name ps (some c) h = pick_ok Fits _ (λ t. level_fits (level c name ps) _) (λ t. is_true (is_full (ordinary_of_type 2 c ps)) h)
+control_fits type name ps None h = unfold is_full in refl
+control_fits type name ps (Some c) h = pick_ok Fits _ (λ t. level_fits (level c name ps) _) (λ t. is_true (is_full (ordinary_of_type 2 c ps)) h)
 
 pub outcomes_fit : OutcomesFitLists
 unfolding OutcomesFitLists answers
@@ -77,13 +77,13 @@ not_referral (p ∷ ps) (w ∷ ws) e = let z : ◌≡◌ {A = ℕ} 0 1 = cc in o
 -- the control name of a referral, and that its list is of such records
 record Refer (type : ℕ) (name : List ℕ) (ps : List Placed) (o : Option (List ℕ)) : Type 0 where
   control : List ℕ
-  is : o ≡ some control
+  is : o ≡ Some control
   servers : T (all (λ p. ordinary_of control p.rec && of_type 2 p.rec) (by_control type name ps o).list)
 
 refers : (type : ℕ) (name : List ℕ) (ps : List Placed) (o : Option (List ℕ)) → (by_control type name ps o).outcome ≡ Outcome.Referral → Refer type name ps o
 unfolding by_control in_zone
-refers type name ps none e = let z : ◌≡◌ {A = ℕ} 0 1 = cc in absurd (omega arith)
-refers type name ps (some c) e = record { control = c; is = refl; servers = go (is_full (ordinary_of_type 6 c ps)) e }
+refers type name ps None e = let z : ◌≡◌ {A = ℕ} 0 1 = cc in absurd (omega arith)
+refers type name ps (Some c) e = record { control = c; is = refl; servers = go (is_full (ordinary_of_type 6 c ps)) e }
   where
     go : (b : Bool) → (pick b (in_zone type (level c name ps)) (record { outcome = Outcome.Referral; list = ordinary_of_type 2 c ps })).outcome ≡ Outcome.Referral
         → T (all (λ p. ordinary_of c p.rec && of_type 2 p.rec) (pick b (in_zone type (level c name ps)) (record { outcome = Outcome.Referral; list = ordinary_of_type 2 c ps })).list)
@@ -143,9 +143,9 @@ first_same w c n (a ∷ names) s p ps e = go (leb c (length a)) refl e (first_sa
         → (first_full (map w (up_to c names)) ≡ p ∷ ps → first_full (map w names) ≡ p ∷ ps) → first_full (w a ∷ map w names) ≡ p ∷ ps
     go true q e f = full_same p ps (w a) (map w (up_to c names)) (map w names) f (unfold pick in e)
     go false q e f =
-        let none : up_to c names ≡ [] = none_up c (length a) names (omega (arith, leb-false c (length a) q)) s.1 in
+        let None : up_to c names ≡ [] = none_up c (length a) names (omega (arith, leb-false c (length a) q)) s.1 in
         let k : first_full (map w (up_to c names)) ≡ p ∷ ps = unfold pick in e in
-        absurd (no_first p ps (rw none at k))
+        absurd (no_first p ps (rw None at k))
 
 module _ (type : ℕ) (name : List ℕ) (ps : List Placed) where
   abbrev whole : List Placed
@@ -168,8 +168,8 @@ module _ (type : ℕ) (name : List ℕ) (ps : List Placed) where
 
   control_01 : (o : Option (List ℕ)) → (by_control type name ps o).outcome ≡ Outcome.Records → (by_control type name ps o).list ≡ keep (λ p. of_type type p.rec) whole
   unfolding by_control
-  control_01 none e = let z : ◌≡◌ {A = ℕ} 0 1 = cc in absurd (omega arith)
-  control_01 (some c) e = go (is_full (ordinary_of_type 6 c ps)) e
+  control_01 None e = let z : ◌≡◌ {A = ℕ} 0 1 = cc in absurd (omega arith)
+  control_01 (Some c) e = go (is_full (ordinary_of_type 6 c ps)) e
     where
       go : (b : Bool) → (pick b (in_zone type (level c name ps)) (record { outcome = Outcome.Referral; list = ordinary_of_type 2 c ps })).outcome ≡ Outcome.Records
           → (pick b (in_zone type (level c name ps)) (record { outcome = Outcome.Referral; list = ordinary_of_type 2 c ps })).list ≡ keep (λ p. of_type type p.rec) whole

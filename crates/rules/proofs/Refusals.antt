@@ -4,7 +4,7 @@ use Prim.Native.Nat.{ℕ, zero, suc, ◌+◌, ◌≤◌, ◌<◌}
 use native.Mathlib.Omega.{arith}
 use mathlib.Core.Bool.{not}
 use mathlib.Core.List.{List, [], ◌∷◌}
-use mathlib.Core.Option.{Option, none, some}
+use Rattle.std.specs.Prelude.{Option, Some, None}
 use lib.ListN.{length, get_or}
 use lib.Dec.{T, leb→le, ltb→lt, nltb→le, nleb→lt, T_not}
 use mir.Facts.{yes_and}
@@ -39,10 +39,10 @@ OfLine Fault.NoRoom = ⊥
 abbrev OfLineAt : LineFault → Type 0
 OfLineAt f = OfLine f.fault
 
-unless_line {ℓ} : {A : Type ℓ} (k : FieldKind) (o : Option A) → OfLine (unless k o)
+unless_line : {A : Type 0} (k : FieldKind) (o : Option A) → OfLine (unless k o)
 unfolding unless
-unless_line k none = tt
-unless_line k (some v) = tt
+unless_line k None = tt
+unless_line k (Some v) = tt
 
 name_line : (r : NameRead) → OfLine (name_fault r)
 unfolding name_fault
@@ -61,8 +61,8 @@ optional_line (b ∷ t) f h = h
 
 type_line : (o : Option ℕ) → OfLine (type_fault o)
 unfolding type_fault
-type_line none = tt
-type_line (some n) = pick_ok OfLine _ (λ t. tt) (λ t. tt)
+type_line None = tt
+type_line (Some n) = pick_ok OfLine _ (λ t. tt) (λ t. tt)
 
 field_line : (m : Meaning) (t : List ℕ) → OfLine (fault_of m t)
 unfolding fault_of

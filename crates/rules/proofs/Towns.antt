@@ -3,7 +3,7 @@ use mathlib.Core.Path.{◌≡◌, refl, sym, ap, ◌∙◌}
 use Prim.Native.Nat.{ℕ}
 use mathlib.Core.Bool.{Bool, true, false, not, ◌&&◌, ◌||◌}
 use mathlib.Core.List.{List, [], ◌∷◌, ◌++◌, map}
-use mathlib.Core.Option.{Option, some}
+use Rattle.std.specs.Prelude.{Option, Some}
 use lib.ListN.{length}
 use lib.Dec.{T, eqb}
 use Rattle.rules.specs.declared.quantities.Shared.{Shared}
@@ -90,7 +90,7 @@ unfolding visible
 location_hidden here moment (location p lo) h = tt
 location_hidden here moment (resource _ _ _ _ _ _) h = elim h [ ]
 
-other_lo_hidden : (here : List ℕ) (moment : ℕ) (s : Shared) (r : Record) → T (not (has_lo_of here (some s))) → Carries s r
+other_lo_hidden : (here : List ℕ) (moment : ℕ) (s : Shared) (r : Record) → T (not (has_lo_of here (Some s))) → Carries s r
     → T (not (visible here moment r))
 unfolding visible has_lo_of
 other_lo_hidden here moment s (resource owner type lo ttl time rdata) t (carries e f) =

@@ -3,7 +3,7 @@ use mathlib.Core.Path.{◌≡◌, refl, sym, ap, ap₂, ◌∙◌}
 use Prim.Native.Nat.{ℕ}
 use mathlib.Core.Bool.{Bool, ◌&&◌}
 use mathlib.Core.List.{List, [], ◌∷◌, map}
-use mathlib.Core.Option.{Option, none, some}
+use Rattle.std.specs.Prelude.{Option, Some, None}
 use Rattle.rules.specs.Lists.{keep, lower}
 use Rattle.rules.specs.Records.{Record}
 use Rattle.rules.specs.Questions.{Placed, Question, Best, better, best_of, location_of, visible, ordinary_of, wildcard_of, ancestors_to, first_full, level, of_type, ordinary_of_type, is_full, control_of, Result, by_level, in_zone, by_control, answers}
@@ -74,8 +74,8 @@ module _ (f : Placed → Placed) (u : Unseen f) where
 
   by_control_lem : (t : ℕ) (n : List ℕ) (ps : List Placed) (c : Option (List ℕ)) → by_control t n (map f ps) c ≡ changed f (by_control t n ps c)
   unfolding by_control changed
-  by_control_lem t n ps none = refl
-  by_control_lem t n ps (some c) =
+  by_control_lem t n ps None = refl
+  by_control_lem t n ps (Some c) =
       rw (has_same 6 c ps, level_same c n ps, zone_same t (level c n ps), typed_same 2 c ps) (sym (pick_ap (changed f) (is_full (ordinary_of_type 6 c ps)) _ _))
 
   best_same : (c : List ℕ) (b : Best) (ps : List Placed) → best_of c b (map (λ p. p.rec) (map f ps)) ≡ best_of c b (map (λ p. p.rec) ps)

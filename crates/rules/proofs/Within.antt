@@ -4,8 +4,8 @@ use Prim.Native.Nat.{ℕ, suc, ◌+◌, ◌*◌, ◌≤◌}
 use native.Mathlib.Omega.{arith}
 use mathlib.Core.Bool.{Bool}
 use mathlib.Core.List.{List, [], ◌∷◌, map}
-use mathlib.Core.Option.{Option, none, some}
-use lib.ListN.{length, get_elem?}
+use Rattle.std.specs.Prelude.{Option, Some, None, slice_get}
+use lib.ListN.{length}
 use lib.Dec.{T, eqb}
 use Rattle.rules.specs.declared.replies.AskFault.{AskFault}
 use Rattle.rules.specs.declared.replies.Response.{Response}
@@ -41,8 +41,8 @@ ends_within n (r ∷ rs) limit h =
 found_within : (stream : List ℕ) (limit moment : ℕ) (o : Option Placed) → OnSome (Held stream) o
     → OnSome (λ p. p.end ≤ limit) o → Within limit (reply_of moment o)
 unfolding reply_of Held
-found_within stream limit moment none h k = tt
-found_within stream limit moment (some p) h k = omega (arith, h.1)
+found_within stream limit moment None h k = tt
+found_within stream limit moment (Some p) h k = omega (arith, h.1)
 
 refused_within : (limit : ℕ) (b : Bool) (f : AskFault) (r : Response) → Within limit r.reply
     → Within limit (pick b (refusal f) r).reply
@@ -55,7 +55,7 @@ unfolding response_from response_of
 asked_within q n limit {rs} ok h =
     let list : List Placed = (answers q (placed_from 0 rs)).list in
     let reply =
-    found_within (bytes_of rs) limit q.moment (get_elem? list n) (all_at n (answers_all q (held [] 0 rs refl)))
+    found_within (bytes_of rs) limit q.moment (slice_get list n) (all_at n (answers_all q (held [] 0 rs refl)))
     (all_at n (answers_all q (ends_within 0 rs limit (omega arith)))) in
     rw (asked_records q n ok)
     (refused_within limit _ _ _ (refused_within limit _ _ _ (refused_within limit _ _ _ reply)))

@@ -1,7 +1,5 @@
 -- What is demanded of compiling and asking, as statements about the definitions. proofs/Refusals.antt and proofs/Meaning.antt prove them.
-use Rattle.std.specs.Prelude.{ℕ, suc, ◌+◌, ◌≤◌, ◌<◌, ◌≡◌, not, List, [], ◌⊎◌, length, drop, take, get_or, T}
-use Rattle.std.proofs.Math.Option.{Option, none, some}
-use Rattle.std.proofs.Math.ListN.{get_elem?}
+use Rattle.std.specs.Prelude.{ℕ, suc, ◌+◌, ◌≤◌, ◌<◌, ◌≡◌, not, List, [], ◌⊎◌, length, drop, take, get_or, T, Option, Some, None, slice_get}
 use Rattle.rules.specs.declared.faults.Answer.{Answer}
 use Rattle.rules.specs.declared.faults.Fault.{Fault}
 use Rattle.rules.specs.declared.replies.Reply.{Reply}
@@ -64,13 +62,13 @@ pub record Hands (stream : List ℕ) (moment : ℕ) (p : Placed) (r : Reply) : T
 
 -- what stands at an ordinal is handed out; where nothing stands, 18
 abbrev pub Gives : List ℕ → ℕ → Option Placed → Reply → Type 0
-Gives stream moment none r = r ≡ Reply.NoMore
-Gives stream moment (some p) r = Hands stream moment p r
+Gives stream moment None r = r ≡ Reply.NoMore
+Gives stream moment (Some p) r = Hands stream moment p r
 
 -- what asking says to a question over records: their outcome and list
 pub record Tells (stream : List ℕ) (rs : List Record) (q : Question) (ordinal : ℕ) (r : Response) : Type 0 where
   pub outcome : r.outcome ≡ (answers q (placed_from 0 rs)).outcome
-  pub list : Gives stream q.moment (get_elem? (answers q (placed_from 0 rs)).list ordinal) r.reply
+  pub list : Gives stream q.moment (slice_get (answers q (placed_from 0 rs)).list ordinal) r.reply
 
 -- Demand 3: what the lines of an accepted source say is what asking its compiled bytes answers, outcome and list together, for every ordinal.
 unfoldable pub CompilingKeepsTheMeaning : Type 0

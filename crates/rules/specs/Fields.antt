@@ -1,6 +1,5 @@
 -- 01, Lines and fields: the forms of fields, what each reads as, and the fault of one that is refused.
-use Rattle.std.specs.Prelude.{ℕ, ◌+◌, ◌-◌, ◌*◌, Bool, false, not, ◌&&◌, ◌||◌, List, [], ◌∷◌, map, length, leb, ltb, eqb}
-use Rattle.std.proofs.Math.Option.{Option, none, some}
+use Rattle.std.specs.Prelude.{ℕ, ◌+◌, ◌-◌, ◌*◌, Bool, false, not, ◌&&◌, ◌||◌, List, [], ◌∷◌, map, length, leb, ltb, eqb, Option, Some, None}
 use Rattle.rules.specs.declared.faults.Fault.{Fault}
 use Rattle.rules.specs.declared.faults.FieldKind.{FieldKind}
 use Rattle.rules.specs.declared.kinds.Meaning.{Meaning}
@@ -18,7 +17,7 @@ decimal_from n (d ∷ ds) = decimal_from (n * 10 + (d - 48)) ds
 
 unfoldable pub number_of : ℕ → List ℕ → Option ℕ
 number_of limit t =
-    pick (leb 1 (length t) && leb (length t) 10 && all digit t && leb (decimal_from 0 t) limit) (some (decimal_from 0 t)) none
+    pick (leb 1 (length t) && leb (length t) 10 && all digit t && leb (decimal_from 0 t) limit) (Some (decimal_from 0 t)) None
 
 -- "ttl at most 2,147,483,647; dist, port, prio, wt, n at most 65,535; the five SOA numbers at most 4,294,967,295."
 unfoldable pub largest_ttl : ℕ
@@ -58,7 +57,7 @@ octet t = leb 1 (length t) && leb (length t) 3 && all digit t && leb (decimal_fr
 
 -- the pieces as one list of bytes, if there are as many as wanted and each is good
 unfoldable pub address_if : Bool → (List ℕ → Bool) → (List ℕ → List ℕ) → List (List ℕ) → Option (List ℕ)
-address_if wanted good bytes pieces = pick (wanted && all good pieces) (some (join_all (map bytes pieces))) none
+address_if wanted good bytes pieces = pick (wanted && all good pieces) (Some (join_all (map bytes pieces))) None
 
 unfoldable pub octet_byte : List ℕ → List ℕ
 octet_byte t = decimal_from 0 t ∷ []
@@ -72,49 +71,49 @@ address_of t =
 
 -- "Prefix. None to four such numbers joined by dots, no dot at the end."
 unfoldable pub prefix_of : List ℕ → Option (List ℕ)
-prefix_of [] = some []
+prefix_of [] = Some []
 prefix_of (b ∷ t) = address_if (leb (length (split_on 46 (b ∷ t))) 4) octet octet_byte (split_on 46 (b ∷ t))
 
 -- "time. .. 16 hex digits, letters in lower case, neither all zero nor 2^63 or more."
 unfoldable pub time_of : List ℕ → Option ℕ
 time_of t =
     pick (eqb (length t) 16 && all lower_hex_digit t && leb 1 (hex_from 0 t) && ltb (hex_from 0 t) 9223372036854775808)
-    (some (hex_from 0 t)) none
+    (Some (hex_from 0 t)) None
 
 -- "lo. One or two ASCII letters, case kept." The code of a location has two bytes, the second 0 for one letter.
 unfoldable pub letter : ℕ → Bool
 letter b = (leb 65 b && leb b 90) || (leb 97 b && leb b 122)
 
 unfoldable pub lo_of : List ℕ → Option Lo
-lo_of [] = none
-lo_of (a ∷ []) = pick (letter a) (some (Lo.Code a 0)) none
-lo_of (a ∷ b ∷ []) = pick (letter a && letter b) (some (Lo.Code a b)) none
-lo_of (a ∷ b ∷ c ∷ t) = none
+lo_of [] = None
+lo_of (a ∷ []) = pick (letter a) (Some (Lo.Code a 0)) None
+lo_of (a ∷ b ∷ []) = pick (letter a && letter b) (Some (Lo.Code a b)) None
+lo_of (a ∷ b ∷ c ∷ t) = None
 
 -- "s, rdata. Any bytes; a backslash needs three octal digits, 000 to 377."
 unfoldable pub octal : ℕ → Bool
 octal b = leb 48 b && leb b 55
 
 unfoldable pub onto_text : ℕ → Option (List ℕ) → Option (List ℕ)
-onto_text b none = none
-onto_text b (some t) = some (b ∷ t)
+onto_text b None = None
+onto_text b (Some t) = Some (b ∷ t)
 
 unfoldable pub text_of : List ℕ → Option (List ℕ)
-text_of [] = some []
-text_of (b ∷ []) = pick (eqb b 92) none (some (b ∷ []))
-text_of (b ∷ c ∷ []) = pick (eqb b 92) none (onto_text b (text_of (c ∷ [])))
-text_of (b ∷ c ∷ d ∷ []) = pick (eqb b 92) none (onto_text b (text_of (c ∷ d ∷ [])))
+text_of [] = Some []
+text_of (b ∷ []) = pick (eqb b 92) None (Some (b ∷ []))
+text_of (b ∷ c ∷ []) = pick (eqb b 92) None (onto_text b (text_of (c ∷ [])))
+text_of (b ∷ c ∷ d ∷ []) = pick (eqb b 92) None (onto_text b (text_of (c ∷ d ∷ [])))
 text_of (b ∷ c ∷ d ∷ e ∷ t) =
-    let escaped = pick (leb 48 c && leb c 51 && octal d && octal e) (onto_text ((c - 48) * 64 + (d - 48) * 8 + (e - 48)) (text_of t)) none in
+    let escaped = pick (leb 48 c && leb c 51 && octal d && octal e) (onto_text ((c - 48) * 64 + (d - 48) * 8 + (e - 48)) (text_of t)) None in
     let plain = onto_text b (text_of (c ∷ d ∷ e ∷ t)) in
     pick (eqb b 92) escaped plain
 
 -- 01, What an answer says: the faults of fields, 5 to 12
 
 -- a field that doesn't read as it should
-unfoldable pub unless {ℓ} : {A : Type ℓ} → FieldKind → Option A → Fault
-unless kind none = Fault.Malformed kind
-unless kind (some value) = Fault.Done
+unfoldable pub unless : {A : Type 0} → FieldKind → Option A → Fault
+unless kind None = Fault.Malformed kind
+unless kind (Some value) = Fault.Done
 
 unfoldable pub name_fault : NameRead → Fault
 name_fault (named wire) = Fault.Done
@@ -135,8 +134,8 @@ unfoldable pub reserved : ℕ → Bool
 reserved n = has n (0 ∷ 2 ∷ 5 ∷ 6 ∷ 12 ∷ 15 ∷ 252 ∷ [])
 
 unfoldable pub type_fault : Option ℕ → Fault
-type_fault none = Fault.Malformed FieldKind.Number
-type_fault (some n) = pick (reserved n) Fault.ReservedType Fault.Done
+type_fault None = Fault.Malformed FieldKind.Number
+type_fault (Some n) = pick (reserved n) Fault.ReservedType Fault.Done
 
 -- the fault of a field's text, read as its meaning; x is a name or a label, and a label's faults are a name's
 unfoldable pub fault_of : Meaning → List ℕ → Fault

@@ -1,6 +1,5 @@
 -- Functions on lists and tests that the rules are written with.
-use Rattle.std.specs.Prelude.{ℕ, zero, suc, ◌+◌, ◌*◌, ◌/◌, ◌%◌, Bool, true, false, ◌&&◌, ◌||◌, List, [], ◌∷◌, ◌++◌, leb, eqb}
-use Rattle.std.proofs.Math.Option.{Option, none, some}
+use Rattle.std.specs.Prelude.{ℕ, zero, suc, ◌+◌, ◌*◌, ◌/◌, ◌%◌, Bool, true, false, ◌&&◌, ◌||◌, List, [], ◌∷◌, ◌++◌, leb, eqb, Option, Some, None}
 
 -- one of two, by a test
 unfoldable pub pick {ℓ} : {A : Type ℓ} → Bool → A → A → A
@@ -8,13 +7,13 @@ pick true x y = x
 pick false x y = y
 
 -- what was read, or x where nothing was
-unfoldable pub value_or {ℓ} : {A : Type ℓ} → A → Option A → A
-value_or x none = x
-value_or x (some y) = y
+unfoldable pub value_or : {A : Type 0} → A → Option A → A
+value_or x None = x
+value_or x (Some y) = y
 
-unfoldable pub is_some {ℓ} : {A : Type ℓ} → Option A → Bool
-is_some none = false
-is_some (some x) = true
+unfoldable pub is_some : {A : Type 0} → Option A → Bool
+is_some None = false
+is_some (Some x) = true
 
 module _ {ℓ} {A : Type ℓ} where
   -- the elements that pass a test

@@ -1,7 +1,5 @@
 -- 02, W14, second half: one source at two moments; proofs/Moments.antt proves it.
-use Rattle.std.specs.Prelude.{ℕ, ◌≤◌, ◌<◌, ◌≡◌, Bool, true, false, not, ◌&&◌, ◌||◌, List, length, T, leb, ltb, eqb}
-use Rattle.std.proofs.Math.Option.{Option, none, some}
-use Rattle.std.proofs.Math.ListN.{get_elem?}
+use Rattle.std.specs.Prelude.{ℕ, ◌≤◌, ◌<◌, ◌≡◌, Bool, true, false, not, ◌&&◌, ◌||◌, List, length, T, leb, ltb, eqb, Option, Some, None, slice_get}
 use Rattle.rules.specs.declared.quantities.Shared.{Shared}
 use Rattle.rules.specs.declared.replies.Reply.{Reply}
 use Rattle.rules.specs.declared.replies.Response.{Response}
@@ -18,8 +16,8 @@ use Rattle.rules.specs.Towns.{stripped_lines, shared_in, result_from}
 
 -- No time is 0 here, and that is never after a moment.
 unfoldable pub quiet_line : ℕ → ℕ → Option Shared → Bool
-quiet_line earlier later none = true
-quiet_line earlier later (some shared) = leb shared.time.0 earlier || ltb later shared.time.0
+quiet_line earlier later None = true
+quiet_line earlier later (Some shared) = leb shared.time.0 earlier || ltb later shared.time.0
 
 unfoldable pub quiet : ℕ → ℕ → List ℕ → Bool
 quiet earlier later source = all (λ line. quiet_line earlier later (shared_in line)) (stripped_lines source)
@@ -58,8 +56,8 @@ without_lifetime (Reply.Refused fault) = Reply.Refused fault
 
 -- what is handed out, if anything is, doesn't end
 unfoldable pub lasts : Option Placed → Bool
-lasts none = true
-lasts (some p) = not (ends p.rec)
+lasts None = true
+lasts (Some p) = not (ends p.rec)
 
 pub record SameButLifetime (given : Option Placed) (r s : Response) : Type 0 where
   pub outcome : r.outcome ≡ s.outcome
@@ -68,7 +66,7 @@ pub record SameButLifetime (given : Option Placed) (r s : Response) : Type 0 whe
 
 -- what the lines of a source hand out at an ordinal, if anything
 unfoldable pub handed_out : List ℕ → ℕ → Question → ℕ → Option Placed
-handed_out source serial q ordinal = get_elem? (result_from (source_records serial source) q).list ordinal
+handed_out source serial q ordinal = slice_get (result_from (source_records serial source) q).list ordinal
 
 -- A later moment of 2^63 or more would be refused.
 unfoldable pub BetweenTimesAskedAlike : Type 0

@@ -1,6 +1,5 @@
 -- 02, W8: what each outcome says of its list, as short laws over any records. proofs/Outcomes.antt proves them.
-use Rattle.std.specs.Prelude.{ℕ, ◌≡◌, Bool, true, false, ◌&&◌, List, [], ◌∷◌, ◌++◌, map, T}
-use Rattle.std.proofs.Math.Option.{Option, none, some}
+use Rattle.std.specs.Prelude.{ℕ, ◌≡◌, Bool, true, false, ◌&&◌, List, [], ◌∷◌, ◌++◌, map, T, Option, Some, None}
 use Rattle.rules.specs.declared.replies.Outcome.{Outcome}
 use Rattle.rules.specs.Lists.{keep, all, lower}
 use Rattle.rules.specs.Questions.{Question, Placed, location_of, visible, ordinary_of, wildcard_of, ancestors, ancestors_to, first_full, of_type, ordinary_of_type, is_full, control_of, answers}
@@ -19,13 +18,13 @@ control_name q ps =
 
 -- "None: not ours, and no records." Rules out: the name's own records handed out.
 unfoldable pub NamesWithoutControlAreNotOurs : Type 0
-NamesWithoutControlAreNotOurs = (q : Question) (ps : List Placed) → control_name q ps ≡ none → answers q ps ≡ record { outcome = Outcome.NotOurs; list = [] }
+NamesWithoutControlAreNotOurs = (q : Question) (ps : List Placed) → control_name q ps ≡ None → answers q ps ≡ record { outcome = Outcome.NotOurs; list = [] }
 
 -- "without, a delegation, and the call hands out that NS list as a referral, whatever the type"
 -- Rules out: NS asked at the delegation answered as records; an address below it handed out.
 unfoldable pub DelegationsRefer : Type 0
 DelegationsRefer =
-    (q : Question) (ps : List Placed) (control : List ℕ) → control_name q ps ≡ some control → ordinary_of_type 6 control (visible_to q ps) ≡ []
+    (q : Question) (ps : List Placed) (control : List ℕ) → control_name q ps ≡ Some control → ordinary_of_type 6 control (visible_to q ps) ≡ []
     → answers q ps ≡ record { outcome = Outcome.Referral; list = ordinary_of_type 2 control (visible_to q ps) }
 
 -- A list has records with two outcomes alone, a referral and records, and with these always.
@@ -43,7 +42,7 @@ OutcomesFitLists = (q : Question) (ps : List Placed) → is_full (answers q ps).
 
 -- Each record of a referral is an ordinary NS record of the control name, whatever the type asked for.
 pub record Refers (control : List ℕ) (q : Question) (ps : List Placed) : Type 0 where
-  pub controls : control_name q ps ≡ some control
+  pub controls : control_name q ps ≡ Some control
   pub servers : T (all (λ p. ordinary_of control p.rec && of_type 2 p.rec) (answers q ps).list)
 
 -- Rules out: a referral that hands out what else stands at the delegation, or below it.

@@ -1,6 +1,5 @@
 -- 01, Who sees what, and 02, W8: the client's location, visibility, lifetime, control name, level, type and outcome, over a list of records.
-use Rattle.std.specs.Prelude.{ℕ, zero, suc, ◌+◌, ◌-◌, min, max, Bool, true, false, not, ◌&&◌, ◌||◌, List, [], ◌∷◌, map, length, drop, leb, ltb, eqb}
-use Rattle.std.proofs.Math.Option.{Option, none, some}
+use Rattle.std.specs.Prelude.{ℕ, zero, suc, ◌+◌, ◌-◌, min, max, Bool, true, false, not, ◌&&◌, ◌||◌, List, [], ◌∷◌, map, length, drop, leb, ltb, eqb, Option, Some, None}
 use Rattle.rules.specs.declared.replies.Outcome.{Outcome}
 use Rattle.rules.specs.Lists.{pick, keep, begins_with, same_bytes, lower}
 use Rattle.rules.specs.Records.{Record, location, resource}
@@ -115,10 +114,10 @@ is_full (p ∷ ps) = true
 
 -- "The control name is the nearest of the asked name and its ancestors with a visible ordinary NS record."
 unfoldable pub control_of : List Placed → List (List ℕ) → Option (List ℕ)
-control_of ps [] = none
+control_of ps [] = None
 control_of ps (n ∷ ns) =
     let higher = control_of ps ns in
-    pick (is_full (ordinary_of_type 2 n ps)) (some n) higher
+    pick (is_full (ordinary_of_type 2 n ps)) (Some n) higher
 
 -- "outcome and list together"
 pub record Result : Type 0 where
@@ -138,8 +137,8 @@ in_zone type ps = by_level ps (keep (λ p. of_type type p.rec) ps)
 -- "None: not ours, and no records. With a visible ordinary SOA there it is our zone; without, a delegation, and the call hands out that NS
 -- list as a referral, whatever the type."
 unfoldable pub by_control : ℕ → List ℕ → List Placed → Option (List ℕ) → Result
-by_control type name ps none = record { outcome = Outcome.NotOurs; list = [] }
-by_control type name ps (some control) =
+by_control type name ps None = record { outcome = Outcome.NotOurs; list = [] }
+by_control type name ps (Some control) =
     let zone = in_zone type (level control name ps) in
     pick (is_full (ordinary_of_type 6 control ps)) zone (record { outcome = Outcome.Referral; list = ordinary_of_type 2 control ps })
 

@@ -1,7 +1,5 @@
 -- 01, Who sees what: what a reader takes for records, what it refuses, and what asking answers.
-use Rattle.std.specs.Prelude.{ℕ, zero, suc, ◌+◌, ◌-◌, Bool, false, not, ◌&&◌, ◌||◌, List, [], ◌∷◌, ◌++◌, length, drop, take, leb, ltb, eqb}
-use Rattle.std.proofs.Math.Option.{Option, none, some}
-use Rattle.std.proofs.Math.ListN.{get_elem?}
+use Rattle.std.specs.Prelude.{ℕ, zero, suc, ◌+◌, ◌-◌, Bool, false, not, ◌&&◌, ◌||◌, List, [], ◌∷◌, ◌++◌, length, drop, take, leb, ltb, eqb, Option, Some, None, slice_get}
 use Rattle.rules.specs.declared.replies.Reply.{Reply}
 use Rattle.rules.specs.declared.replies.AskFault.{AskFault}
 use Rattle.rules.specs.declared.replies.Outcome.{Outcome}
@@ -41,56 +39,56 @@ unfoldable pub behind_lo : List ℕ → ℕ → List ℕ → List ℕ → Option
 behind_lo owner type lo rest =
     let ttl = from_be 0 (take 4 rest) in
     let time = from_be 0 (take 8 (drop 4 rest)) in
-    pick (leb 12 (length rest) && leb ttl largest_ttl && ltb time moment_end) (some (resource owner type lo ttl time (drop 12 rest))) none
+    pick (leb 12 (length rest) && leb ttl largest_ttl && ltb time moment_end) (Some (resource owner type lo ttl time (drop 12 rest))) None
 
 unfoldable pub with_lo : List ℕ → ℕ → List ℕ → Option Record
-with_lo owner type rest = pick (is_lo (take 2 rest)) (behind_lo owner type (take 2 rest) (drop 2 rest)) none
+with_lo owner type rest = pick (is_lo (take 2 rest)) (behind_lo owner type (take 2 rest) (drop 2 rest)) None
 
 -- by the flag byte: `=` and `>` are ordinary, `*` and `+` a wildcard whose owner has the label `*` in front
 unfoldable pub by_flag : List ℕ → ℕ → ℕ → List ℕ → Option Record
 by_flag key type flag rest =
-    pick (eqb flag 61) (pick (ordinary_key key) (behind_lo key type [] rest) none)
-    (pick (eqb flag 62) (pick (ordinary_key key) (with_lo key type rest) none)
-    (pick (eqb flag 42) (pick (wildcard_key key) (behind_lo (1 ∷ 42 ∷ key) type [] rest) none)
-    (pick (eqb flag 43) (pick (wildcard_key key) (with_lo (1 ∷ 42 ∷ key) type rest) none)
-    none)))
+    pick (eqb flag 61) (pick (ordinary_key key) (behind_lo key type [] rest) None)
+    (pick (eqb flag 62) (pick (ordinary_key key) (with_lo key type rest) None)
+    (pick (eqb flag 42) (pick (wildcard_key key) (behind_lo (1 ∷ 42 ∷ key) type [] rest) None)
+    (pick (eqb flag 43) (pick (wildcard_key key) (with_lo (1 ∷ 42 ∷ key) type rest) None)
+    None)))
 
 unfoldable pub resource_in : List ℕ → List ℕ → Option Record
-resource_in key [] = none
-resource_in key (t ∷ []) = none
-resource_in key (t ∷ u ∷ []) = none
+resource_in key [] = None
+resource_in key (t ∷ []) = None
+resource_in key (t ∷ u ∷ []) = None
 resource_in key (t ∷ u ∷ flag ∷ rest) = by_flag key (from_be 0 (t ∷ u ∷ [])) flag rest
 
 -- "a location key outside 2 to 6 bytes or data not 2"; "its second byte must be `%`"
 unfoldable pub location_in : ℕ → List ℕ → List ℕ → Option Record
-location_in mark prefix lo = pick (eqb mark 37 && leb (length prefix) 4 && is_lo lo) (some (location prefix lo)) none
+location_in mark prefix lo = pick (eqb mark 37 && leb (length prefix) 4 && is_lo lo) (Some (location prefix lo)) None
 
 -- the record of a key and its data. "A location key is one that starts with 0 and has two bytes or more"
 unfoldable pub record_in : List ℕ → List ℕ → Option Record
-record_in [] rdata = none
+record_in [] rdata = None
 record_in (zero ∷ []) rdata = resource_in (zero ∷ []) rdata
 record_in (zero ∷ mark ∷ prefix) rdata = location_in mark prefix rdata
 record_in (suc b ∷ key) rdata = resource_in (suc b ∷ key) rdata
 
 unfoldable pub onto_records : Option Record → Option (List Record) → Option (List Record)
-onto_records none rs = none
-onto_records (some r) none = none
-onto_records (some r) (some rs) = some (r ∷ rs)
+onto_records None rs = None
+onto_records (Some r) None = None
+onto_records (Some r) (Some rs) = Some (r ∷ rs)
 
 -- a record of k key bytes and d data bytes, and what is behind it: "lengths that don't fit"
 unfoldable pub decode_one : ℕ → ℕ → List ℕ → (List ℕ → Option (List Record)) → Option (List Record)
 decode_one k d rest more =
     let decoded = onto_records (record_in (take k rest) (take d (drop k rest))) (more (drop d (drop k rest))) in
-    pick (leb (k + d) (length rest)) decoded none
+    pick (leb (k + d) (length rest)) decoded None
 
 -- the count is one that the number of records can't exceed: the number of bytes
 unfoldable pub decode_from : ℕ → List ℕ → Option (List Record)
-decode_from zero [] = some []
-decode_from zero (b ∷ bs) = none
-decode_from (suc count) [] = some []
+decode_from zero [] = Some []
+decode_from zero (b ∷ bs) = None
+decode_from (suc count) [] = Some []
 decode_from (suc count) (b ∷ bs) =
     let decoded = decode_one (from_le (take 4 (b ∷ bs))) (from_le (take 4 (drop 4 (b ∷ bs)))) (drop 8 (b ∷ bs)) (λ rest. decode_from count rest) in
-    pick (leb 8 (length (b ∷ bs))) decoded none
+    pick (leb 8 (length (b ∷ bs))) decoded None
 
 -- the records of a stream, or that its bytes aren't whole records
 unfoldable pub decode : List ℕ → Option (List Record)
@@ -130,13 +128,13 @@ type_of (resource owner type lo ttl time rdata) = type
 
 -- "the place .. and length of the record data alone, behind the time"
 unfoldable pub reply_of : ℕ → Option Placed → Reply
-reply_of moment none = Reply.NoMore
-reply_of moment (some p) =
+reply_of moment None = Reply.NoMore
+reply_of moment (Some p) =
     Reply.Found (type_of p.rec) (record { 0 = lifetime_of moment p.rec }) (p.end - length (rdata_of p.rec)) (length (rdata_of p.rec))
 
 -- "the ordinal picks one, or the call says 18"
 unfoldable pub response_of : ℕ → Result → ℕ → Response
-response_of moment result ordinal = record { outcome = result.outcome; reply = reply_of moment (get_elem? result.list ordinal) }
+response_of moment result ordinal = record { outcome = result.outcome; reply = reply_of moment (slice_get result.list ordinal) }
 
 -- the rules of asking over a list of records
 unfoldable pub response_from : List Record → Question → ℕ → Response
@@ -146,8 +144,8 @@ unfoldable pub refusal : AskFault → Response
 refusal fault = record { outcome = Outcome.Refused; reply = Reply.Refused fault }
 
 unfoldable pub response_decoded : Option (List Record) → Question → ℕ → Response
-response_decoded none q ordinal = refusal AskFault.Records
-response_decoded (some rs) q ordinal = response_from rs q ordinal
+response_decoded None q ordinal = refusal AskFault.Records
+response_decoded (Some rs) q ordinal = response_from rs q ordinal
 
 -- "a client address of 4 or 16 bytes"
 unfoldable pub is_client : List ℕ → Bool

@@ -1,8 +1,7 @@
 -- 02, W14: one town's lines, another town's panels, as statements about the definitions; proofs/Towns.antt proves
 -- them. Moments.antt has W14's second half, Index.antt what else an answer doesn't depend on;
 -- crates/vahmizar/specs/Towns.antt has all three over the calls.
-use Rattle.std.specs.Prelude.{ℕ, ◌≤◌, ◌≡◌, Bool, false, ◌||◌, List, [], ◌∷◌, map, length, take, drop, eqb}
-use Rattle.std.proofs.Math.Option.{Option, none, some}
+use Rattle.std.specs.Prelude.{ℕ, ◌≤◌, ◌≡◌, Bool, false, ◌||◌, List, [], ◌∷◌, map, length, take, drop, eqb, Option, Some, None}
 use Rattle.rules.specs.declared.quantities.Shared.{Shared}
 use Rattle.rules.specs.declared.replies.Reply.{Reply}
 use Rattle.rules.specs.declared.replies.Response.{Response}
@@ -24,16 +23,16 @@ is_location_line (kind ∷ rest) = eqb kind 37
 
 -- ttl, time and lo of any other line that isn't empty or ignored, by its kind's last three fields
 unfoldable pub shared_in : List ℕ → Option Shared
-shared_in [] = none
-shared_in (kind ∷ rest) = pick (ignored kind || eqb kind 37) none (some (shared_of (kind_of kind) (split_on 58 rest)))
+shared_in [] = None
+shared_in (kind ∷ rest) = pick (ignored kind || eqb kind 37) None (Some (shared_of (kind_of kind) (split_on 58 rest)))
 
 -- ---- "Take two accepted sources with the same default serial, the same `%` lines and the same other lines, both in
 -- the same order, save those others whose lo isn't empty and isn't this client's location; each may have any of these."
 
 -- no lo, or that of a location
 unfoldable pub has_lo_of : List ℕ → Option Shared → Bool
-has_lo_of here none = false
-has_lo_of here (some shared) = eqb (length (lo_bytes shared.lo)) 0 || same_bytes (lo_bytes shared.lo) here
+has_lo_of here None = false
+has_lo_of here (Some shared) = eqb (length (lo_bytes shared.lo)) 0 || same_bytes (lo_bytes shared.lo) here
 
 unfoldable pub location_lines : List ℕ → List (List ℕ)
 location_lines source = keep is_location_line (stripped_lines source)

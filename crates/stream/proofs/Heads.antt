@@ -2,7 +2,7 @@
 use mathlib.Core.Path.{◌≡◌, refl, ap, ◌∙◌, sym}
 use mathlib.Core.Bool.{Bool, true, false, ◌&&◌}
 use mathlib.Core.List.{List, [], ◌∷◌}
-use mathlib.Core.Option.{Option, none, some}
+use Rattle.std.specs.Prelude.{Option, Some, None}
 use Prim.Native.Nat.{ℕ, zero, suc, ◌+◌, ◌-◌, ◌<◌, ◌≤◌}
 use native.Mathlib.Omega.{arith}
 use borrow.Author.Rules.{rules}
@@ -44,7 +44,7 @@ module _ (bytes : List ℕ) where
   unfolding fits
   fitted q = leb-true (size_at bytes) (length bytes) (both_right (leb 8 (length bytes)) (leb (size_at bytes) (length bytes)) q)
 
-  pub malformed : length bytes < 8 → record_at bytes ≡ none
+  pub malformed : length bytes < 8 → record_at bytes ≡ None
   unfolding record_at fits pick
   malformed h = rw (lt-leb 8 (length bytes) h)
 
@@ -78,19 +78,19 @@ whole_is bytes k d e = go (fits bytes) refl e
     go true q e = record { key_is = cc; data_is = cc; long = fitted bytes q; fit = q }
     go false q e = let z : ◌≡◌ {A = ℕ} 0 1 = cc in absurd (omega arith)
 
-pub broken_is : (bytes : List ℕ) → Broken ≡ head_of bytes → record_at bytes ≡ none
+pub broken_is : (bytes : List ℕ) → Broken ≡ head_of bytes → record_at bytes ≡ None
 unfolding head_of record_at pick
 broken_is bytes e = go (fits bytes) refl e
   where
-    go : (t : Bool) → fits bytes ≡ t → Broken ≡ pick t (Whole (key_length bytes) (data_length bytes)) Broken → pick t (record_in (key_at bytes) (data_at bytes)) none ≡ none
+    go : (t : Bool) → fits bytes ≡ t → Broken ≡ pick t (Whole (key_length bytes) (data_length bytes)) Broken → pick t (record_in (key_at bytes) (data_at bytes)) None ≡ None
     go true q e = let z : ◌≡◌ {A = ℕ} 0 1 = cc in absurd (omega arith)
     go false q e = refl
 
 -- ---- a stream is its first record and the rest
 
 module _ (bytes : List ℕ) (more : List ℕ → Option (List Record)) where
-  when : (t : Bool) → pick t (onto_records (record_in (key_at bytes) (data_at bytes)) (more (drop (size_at bytes) bytes))) none
-      ≡ onto_records (pick t (record_in (key_at bytes) (data_at bytes)) none) (more (drop (size_at bytes) bytes))
+  when : (t : Bool) → pick t (onto_records (record_in (key_at bytes) (data_at bytes)) (more (drop (size_at bytes) bytes))) None
+      ≡ onto_records (pick t (record_in (key_at bytes) (data_at bytes)) None) (more (drop (size_at bytes) bytes))
   unfolding onto_records pick
   when true = refl
   when false = refl
@@ -109,11 +109,11 @@ module _ (bytes : List ℕ) (more : List ℕ → Option (List Record)) where
       rw (same_test h, le-leb 8 (length bytes) h, drop-drop (key_length bytes) 8 bytes, drop-drop (data_length bytes) (8 + key_length bytes) bytes)
       (unfold size_at key_at data_at in when (leb (size_at bytes) (length bytes)))
 
-  one : pick (leb 8 (length bytes)) (decode_one (key_length bytes) (data_length bytes) (drop 8 bytes) more) none ≡ onto_records (record_at bytes) (more (drop (size_at bytes) bytes))
+  one : pick (leb 8 (length bytes)) (decode_one (key_length bytes) (data_length bytes) (drop 8 bytes) more) None ≡ onto_records (record_at bytes) (more (drop (size_at bytes) bytes))
   unfolding pick
   one = go (leb 8 (length bytes)) refl
     where
-      go : (t : Bool) → leb 8 (length bytes) ≡ t → pick t (decode_one (key_length bytes) (data_length bytes) (drop 8 bytes) more) none ≡ onto_records (record_at bytes) (more (drop (size_at bytes) bytes))
+      go : (t : Bool) → leb 8 (length bytes) ≡ t → pick t (decode_one (key_length bytes) (data_length bytes) (drop 8 bytes) more) None ≡ onto_records (record_at bytes) (more (drop (size_at bytes) bytes))
       go true q = one_long (leb-true 8 (length bytes) q)
       go false q = rw (malformed bytes (leb-false 8 (length bytes) q)) (unfold onto_records in refl)
 
@@ -125,12 +125,12 @@ shorter : (b : ℕ) (bs : List ℕ) → length (drop (size_at (b ∷ bs)) (b ∷
 unfolding size_at
 shorter b bs = omega (arith, length-drop (8 + key_length (b ∷ bs) + data_length (b ∷ bs)) (b ∷ bs))
 
-none_left : (count : ℕ) → decode_from count [] ≡ some []
+none_left : (count : ℕ) → decode_from count [] ≡ Some []
 unfolding decode_from
 none_left zero = refl
 none_left (suc count) = refl
 
-pub decode_nil : decode [] ≡ some []
+pub decode_nil : decode [] ≡ Some []
 unfolding decode decode_from
 decode_nil = refl
 
@@ -141,4 +141,4 @@ decode_more (b ∷ bs) h =
     let rest = drop (size_at (b ∷ bs)) (b ∷ bs) in
     front (length bs) b bs
     ∙ ap (onto_records (record_at (b ∷ bs)))
-    (enough decode_from (λ xs. onto_records (record_at xs)) (λ xs. drop (size_at xs) xs) (some []) none_left front shorter (length bs) (length rest) rest (shorter b bs) (omega arith))
+    (enough decode_from (λ xs. onto_records (record_at xs)) (λ xs. drop (size_at xs) xs) (Some []) none_left front shorter (length bs) (length rest) rest (shorter b bs) (omega arith))

@@ -1,6 +1,5 @@
 -- The record at the front of a stream.
-use Rattle.std.specs.Prelude.{ℕ, ◌+◌, Bool, ◌&&◌, List, length, take, drop, leb}
-use Rattle.std.proofs.Math.Option.{Option, none}
+use Rattle.std.specs.Prelude.{ℕ, ◌+◌, Bool, ◌&&◌, List, length, take, drop, leb, Option, None}
 use Rattle.rules.specs.Lists.{pick, from_le}
 use Rattle.rules.specs.Records.{Record}
 use Rattle.rules.specs.Reading.{record_in}
@@ -32,4 +31,4 @@ data_at bytes = take (data_length bytes) (drop (8 + key_length bytes) bytes)
 
 -- the record, or none where the lengths don't fit or where it is malformed
 unfoldable pub record_at : List ℕ → Option Record
-record_at bytes = pick (fits bytes) (record_in (key_at bytes) (data_at bytes)) none
+record_at bytes = pick (fits bytes) (record_in (key_at bytes) (data_at bytes)) None

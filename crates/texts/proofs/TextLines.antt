@@ -2,7 +2,7 @@
 use mathlib.Core.Path.{◌≡◌, refl, ap, ◌∙◌, sym}
 use mathlib.Core.Bool.{true}
 use mathlib.Core.List.{List, []}
-use mathlib.Core.Option.{Option, none, some}
+use Rattle.std.specs.Prelude.{Option, Some, None}
 use Prim.Native.Nat.{ℕ, ◌+◌, ◌-◌, ◌≤◌, ◌<◌}
 use native.Mathlib.Omega.{arith}
 use borrow.Author.Rules.{rules}
@@ -77,8 +77,8 @@ module _ (text : PlainText) (few : text.len ≤ 1024) (long : length text.bytes 
 
 good_text : (o : Option (List ℕ)) → T (is_done (unless FieldKind.Escape o)) → is_some o ≡ true
 unfolding unless is_done is_some
-good_text none d = absurd d
-good_text (some x) d = refl
+good_text None d = absurd d
+good_text (Some x) d = refl
 
 module _ (s : List ℕ) (spans : List Span) where
   pub text_ready : Ready Kind.Text s spans → is_some (text_of (field_at (split_on 58 s) 1)) ≡ true

@@ -1,7 +1,7 @@
 -- The laws of a time: 16 digits in lower case, and a value that is neither 0 nor too large.
 use mathlib.Core.Path.{◌≡◌}
 use mathlib.Core.List.{List}
-use mathlib.Core.Option.{none, some}
+use Rattle.std.specs.Prelude.{Some, None}
 use Prim.Native.Nat.{ℕ, ◌+◌, ◌*◌, ◌^◌, ◌<◌, ◌≤◌}
 use native.Mathlib.Omega.{arith}
 use borrow.Author.Rules.{rules}
@@ -14,7 +14,7 @@ use Rattle.rules.specs.Fields.{lower_hex_digit, time_of}
 use Rattle.digits.specs.Digits.{hex_or}
 use Rattle.digits.proofs.HexDigit.{Hex, begin, taken, refused, all_good, all_worth, is_digit, no_digit, more_digits, times_fits, more_fits}
 
-pub other_length_lem : (s : List ℕ) → (length s ≡ 16 → ⊥) → none ≡ time_of s
+pub other_length_lem : (s : List ℕ) → (length s ≡ 16 → ⊥) → None ≡ time_of s
 unfolding time_of pick
 other_length_lem s h = rw (ne_eqb (length s) 16 h)
 
@@ -22,19 +22,19 @@ module _ (s : List ℕ) (value i : ℕ) (e : Hex lower_hex_digit s value i) (n :
   pub turn : (d : ℕ) → d ≡ hex_or 16 (get_or s i 0) → i < length s → d < 16 → Hex lower_hex_digit s (value * 16 + d) (i + 1)
   turn d q h k = let w = is_digit (get_or s i 0) d q k in taken e d h w.0 w.1
 
-  pub bad_digit : (d : ℕ) → d ≡ hex_or 16 (get_or s i 0) → i < length s → 16 ≤ d → none ≡ time_of s
+  pub bad_digit : (d : ℕ) → d ≡ hex_or 16 (get_or s i 0) → i < length s → 16 ≤ d → None ≡ time_of s
   unfolding time_of pick
   bad_digit d q h k = rw (eq-eqb (length s) 16 n, refused e h (no_digit (get_or s i 0) d q k))
 
-  pub zero_time : length s ≤ i → value ≡ 0 → none ≡ time_of s
+  pub zero_time : length s ≤ i → value ≡ 0 → None ≡ time_of s
   unfolding time_of pick
   zero_time h z = rw (eq-eqb (length s) 16 n, all_good e h, all_worth e h, z)
 
-  pub late : length s ≤ i → (value ≡ 0 → ⊥) → 9223372036854775808 ≤ value → none ≡ time_of s
+  pub late : length s ≤ i → (value ≡ 0 → ⊥) → 9223372036854775808 ≤ value → None ≡ time_of s
   unfolding time_of pick
   late h z l = rw (eq-eqb (length s) 16 n, all_good e h, all_worth e h, le-leb 1 value (omega arith), le-ltb value 9223372036854775808 l)
 
-  pub good : length s ≤ i → (value ≡ 0 → ⊥) → value < 9223372036854775808 → some value ≡ time_of s
+  pub good : length s ≤ i → (value ≡ 0 → ⊥) → value < 9223372036854775808 → Some value ≡ time_of s
   unfolding time_of pick
   good h z l = rw (eq-eqb (length s) 16 n, all_good e h, all_worth e h, le-leb 1 value (omega arith), lt-ltb value 9223372036854775808 l)
 

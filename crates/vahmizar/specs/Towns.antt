@@ -1,8 +1,7 @@
 -- 02, W14, of the calls that exist: what calls of tinydns_ask on compiled bytes have to do with each other. It follows
 -- from `Compiles` and `Asks`, so from what each call promises by itself. The definitions are those of `rules`, with the
 -- statements about sources.
-use Rattle.std.specs.Prelude.{ℕ, ◌*◌, ◌≤◌, ◌<◌, ◌≡◌, Bool, List, length, take, drop, T}
-use Rattle.std.proofs.Math.Option.{Option}
+use Rattle.std.specs.Prelude.{ℕ, ◌*◌, ◌≤◌, ◌<◌, ◌≡◌, Bool, List, length, take, drop, T, Option}
 use Rattle.rules.specs.Lists.{keep, from_le}
 use Rattle.rules.specs.Records.{Record}
 use Rattle.rules.specs.Bytes.{bytes_of}
