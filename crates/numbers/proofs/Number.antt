@@ -2,7 +2,7 @@
 use mathlib.Core.Path.{◌≡◌, refl, ◌∙◌, sym}
 use mathlib.Core.Bool.{Bool, true, false, ◌&&◌}
 use mathlib.Core.List.{List}
-use Rattle.std.specs.Prelude.{Some, None}
+use Rattle.std.specs.Prelude.{Option, Some, None}
 use Prim.Native.Nat.{ℕ, ◌+◌, ◌*◌, ◌-◌, ◌^◌, ◌<◌, ◌≤◌}
 use native.Mathlib.Nat.{pow-suc, pow-le-pow_right}
 use native.Mathlib.Numerals.{add-one}
@@ -16,8 +16,8 @@ use mir.Syntax.{w64}
 use Rattle.rules.specs.Lists.{pick, all}
 use Rattle.rules.specs.Fields.{digit, decimal_from, number_of}
 use Rattle.wire.proofs.Steps.{left_at}
-use Rattle.numbers.specs.Views.{number_read}
-use Rattle.numbers.specs.declared.numbers.NumberRead.{NumberRead}
+
+
 
 -- what is left at i are digits exactly if all are, and read behind the value so far they give the number
 pub record Digits (s : List ℕ) (value i : ℕ) : Type 0 where
@@ -103,7 +103,7 @@ value_within limit t v e = by (leb 1 (length t) && leb (length t) 10 && all digi
     by true false a e = absurd (let z : ◌≡◌ {A = ℕ} 0 1 = cc in omega arith)
     by false w a e = absurd (let z : ◌≡◌ {A = ℕ} 0 1 = cc in omega arith)
 
-pub within : (limit : ℕ) (t : List ℕ) (r : NumberRead) (v : ℕ) → number_read r ≡ number_of limit t → r ≡ NumberRead.Good v → v ≤ limit
+pub within : (limit : ℕ) (t : List ℕ) (r : Option ℕ) (v : ℕ) → r ≡ number_of limit t → r ≡ Some v → v ≤ limit
 within limit t r v p q = value_within limit t v (sym p ∙ rw q)
 
 pub ruleset number_laws = (begin, turn, empty, long, low, high, good, over, ten_more, times_fits, more_fits, rules)
