@@ -80,6 +80,10 @@ module _ (x d e : List ℕ) (r : ℕ) (p : IsPut x d e r) where
   pub then_is : (y f z : List ℕ) (k : ℕ) → IsPut y (lent_at r e) f k → x ++ y ≡ z → IsPut z d (back_at r e f) (r + k)
   then_is y f z k q w = rw w at (then y f k q)
 
+-- a buffer that is filled by what was put at its front
+pub filled : (x d e held : List ℕ) (r : ℕ) → IsPut x d e r → held ≡ take r e → held ≡ x
+filled x d e held r p h = h ∙ front x d e r p
+
 -- three writers and four, each behind the last
 module _ (x d e : List ℕ) (r : ℕ) (p : IsPut x d e r) (y f : List ℕ) (k : ℕ) (q : IsPut y (lent_at r e) f k) where
   pub then_two : (z g w : List ℕ) (m : ℕ) → IsPut z (lent_at (r + k) (back_at r e f)) g m → x ++ y ++ z ≡ w
