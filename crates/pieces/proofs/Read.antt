@@ -2,7 +2,10 @@
 use Rattle.std.proofs.Common.{◌≡◌, refl, ap, ◌∙◌, sym, ℕ, ◌+◌, ◌<◌, ◌≤◌, List, [], ◌∷◌, ◌++◌, length, Option, Some, None, arith, append_assoc, append-nil, length-append, leb, Bool, true, false}
 use Rattle.std.proofs.Common.{rules}
 use borrow.Author.Tests.{le-leb, lt-leb}
-use Rattle.rules.specs.Lists.{pick}
+use Rattle.std.proofs.Common.{map, suc, ◌&&◌, option_map}
+use Rattle.std.proofs.lemmas.Option.{none-some}
+use Rattle.rules.specs.Fields.{address_if}
+use Rattle.rules.specs.Lists.{pick, all, join_all}
 use Rattle.std.proofs.Common.{Bor}
 use denote.Param.Members.{Shared}
 use Rattle.pieces.specs.Pieces.{Reads, onto_read, then_read, read_all, read_in}
@@ -63,3 +66,57 @@ module _ {A : Type 0} where
 module _ {F A : Type 0} (g : Shared F (Bor (List ℕ) × Unit {0}) (Option A)) (read : F) (f : List ℕ → Option A) (q : Reads g read f) where
   pub called : (piece : Bor (List ℕ)) (r : Option A) → g.post read (piece, tt) r → f piece.now ≡ r
   called piece r p = sym (q piece.now r (record { shown = piece; shows = refl; says = record { met = p } }))
+
+-- what all pieces are read as, where one is read as its value if it is good
+module _ {A : Type 0} {f : List ℕ → Option A} (good : List ℕ → Bool) (value : List ℕ → A) (reads : (t : List ℕ) → f t ≡ pick (good t) (Some (value t)) None) where
+  pub all_read : (ps : List (List ℕ)) → read_all f ps ≡ pick (all good ps) (Some (map value ps)) None
+  unfolding read_all all then_read onto_read pick
+  all_read [] = refl
+  all_read (p ∷ ps) = rw (reads p, all_read ps) (by (good p) (all good ps))
+    where
+      by : (u w : Bool) → then_read (pick u (Some (value p)) None) (pick w (Some (map value ps)) None) ≡ pick (u && w) (Some (value p ∷ map value ps)) None
+      by true true = refl
+      by true false = refl
+      by false w = refl
+
+  module _ (bytes : List ℕ → List ℕ) (encode : A → List ℕ) (same : (t : List ℕ) → bytes t ≡ encode (value t)) where
+    encoded : (ps : List (List ℕ)) → map bytes ps ≡ map encode (map value ps)
+    encoded [] = refl
+    encoded (p ∷ ps) = rw (same p, encoded ps) refl
+
+    pub address_read : (wanted : Bool) (ps : List (List ℕ)) → option_map (λ vs. join_all (map encode vs)) (pick wanted (read_all f ps) None) ≡ address_if wanted good bytes ps
+    unfolding address_if pick
+    address_read wanted ps = rw (all_read ps, encoded ps) (by wanted (all good ps))
+      where
+        by : (u w : Bool)
+            → option_map (λ vs. join_all (map encode vs)) (pick u (pick w (Some (map value ps)) None) None) ≡ pick (u && w) (Some (join_all (map encode (map value ps)))) None
+        by true true = refl
+        by true false = refl
+        by false w = refl
+
+-- there are as many values as pieces
+module _ {A : Type 0} (f : List ℕ → Option A) where
+  pub as_many : (ps : List (List ℕ)) (vs : List A) → read_all f ps ≡ Some vs → length vs ≡ length ps
+  unfolding read_all then_read onto_read
+  as_many [] vs e = let q : vs ≡ [] = cc in rw q refl
+  as_many (p ∷ ps) vs e = by (f p) (read_all f ps) (as_many ps) e
+    where
+      by : (u : Option A) (w : Option (List A)) → ((ws : List A) → w ≡ Some ws → length ws ≡ length ps) → then_read u w ≡ Some vs → length vs ≡ length (p ∷ ps)
+      by (Some v) (Some ws) h r = let z : vs ≡ v ∷ ws = cc in rw z (ap suc (h ws refl))
+      by (Some v) None h r = absurd (none-some _ r)
+      by None w h r = absurd (none-some _ r)
+
+-- what was read within the room tells what all pieces are
+module _ {A : Type 0} (f : List ℕ → Option A) (room : ℕ) (ps : List (List ℕ)) where
+  pub none_read : (wanted : Bool) → (wanted ≡ true → length ps ≤ room) → None ≡ read_in room f ps → pick wanted (read_all f ps) None ≡ None
+  unfolding read_in pick
+  none_read true h e = sym (e ∙ rw (le-leb (length ps) room (h refl)) refl)
+  none_read false h e = refl
+
+  pub some_read : (vs : List A) → Some vs ≡ read_in room f ps → (read_all f ps ≡ Some vs) × (length vs ≡ length ps)
+  unfolding read_in pick
+  some_read vs e = by (leb (length ps) room) e
+    where
+      by : (u : Bool) → Some vs ≡ pick u (read_all f ps) None → (read_all f ps ≡ Some vs) × (length vs ≡ length ps)
+      by true r = (sym r, as_many f ps vs (sym r))
+      by false r = absurd (none-some _ (sym r))

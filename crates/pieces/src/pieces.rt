@@ -1,5 +1,5 @@
 // A text and the byte that parts its pieces.
-ghost use Rattle.std.specs.Prelude.{◌≡◌, ℕ, List, ◌≤◌, ◌<◌, length, take, Option, option_map};
+ghost use Rattle.std.specs.Prelude.{◌≡◌, ℕ, List, ◌≤◌, ◌<◌, length, take, Option, option_map, IfSome};
 ghost use Rattle.std.specs.Iterator.{YieldsFirstRef, item_count};
 ghost use Rattle.pieces.specs.Pieces.{first_at, IsEnd, pieces_left, Reads, read_in};
 ghost use Rattle.rules.specs.Lists.{has, split_on};
@@ -64,7 +64,8 @@ impl<'a> Iterator for Pieces<'a> {
 // Answers how many they are, where each reads and has a place.
 pub fn read_pieces<T: Copy, F: Fn(&[u8]) -> Option<T>>(text: &[u8], b: u8, read: F, out: &mut [T]) -> Option<usize>
     requires { F.IsAlwaysCallable read }
-    ensures { (f : List ℕ → Option T) → Reads F.Fn read f → option_map (λ n. take n out.new) result ≡ read_in (length out.old) f (split_on b text.now) }
+    ensures values { (f : List ℕ → Option T) → Reads F.Fn read f → option_map (λ n. take n out.new) result ≡ read_in (length out.old) f (split_on b text.now) }
+    ensures room { IfSome result (λ n. n ≤ length out.old) }
 {
     let mut count = 0;
     for piece in Pieces::new(text, b) {

@@ -11,11 +11,11 @@ loop-piece-init g c =
     let e = ap (λ s. pieces_left s.by s.left) c.into_iter-piece-iterator.ensures.into_iter_gives ∙ c.new-piece-items.ensures in
     (omega arith, λ f q. begin f _ _ e)
 
-pub returns-then-count-out : goal.returns-then-count-out
-returns-then-count-out g c f q = full (c.loop-piece.invariant.1 f q) c.in-Some.piece.now _ _ c.in-Some.ensures.steps (grind (arith, common_steps))
+pub returns-then-count-out-clause-values : goal.returns-then-count-out-clause-values
+returns-then-count-out-clause-values g c f q = full (c.loop-piece.invariant.1 f q) c.in-Some.piece.now _ _ c.in-Some.ensures.steps (grind (arith, common_steps))
 
-pub returns-in_default : goal.returns-in_default
-returns-in_default g c f q = bad (c.loop-piece.invariant.1 f q) c.in-Some.piece.now _ _ c.in-Some.ensures.steps (called g.F.Fn c.args.read f q _ _ c.in_default.ensures)
+pub returns-in_default-clause-values : goal.returns-in_default-clause-values
+returns-in_default-clause-values g c f q = bad (c.loop-piece.invariant.1 f q) c.in-Some.piece.now _ _ c.in-Some.ensures.steps (called g.F.Fn c.args.read f q _ _ c.in_default.ensures)
 
 pub loop-piece-preserved : goal.loop-piece-preserved
 loop-piece-preserved g c =
@@ -24,5 +24,5 @@ loop-piece-preserved g c =
       λ f q. rw (take_more_set c.loop-piece.out c.loop-piece.count c.in-Some-read.value n) (turn (c.loop-piece.invariant.1 f q) c.in-Some.piece.now _ c.in-Some-read.value c.in-Some.ensures.steps (called g.F.Fn c.args.read f q _ _ c.in-Some-read.ensures)),
     )
 
-pub returns : goal.returns
-returns g c f q = end (c.loop-piece.invariant.1 f q) _ c.in-None.ensures.steps.0 (grind (arith, common_steps))
+pub returns-clause-values : goal.returns-clause-values
+returns-clause-values g c f q = end (c.loop-piece.invariant.1 f q) _ c.in-None.ensures.steps.0 (grind (arith, common_steps))
