@@ -94,7 +94,7 @@ pub more_fits : (i v n d b : ℕ) → v < 10 ^ i → i < n → n ≤ 10 → d �
 more_fits i v n d b h k m e g = let l = ten_digits i v h (omega arith) in omega arith
 
 -- a good number is within its limit
-value_within : (limit : ℕ) (t : List ℕ) (v : ℕ) → number_of limit t ≡ Some v → v ≤ limit
+pub value_within : (limit : ℕ) (t : List ℕ) (v : ℕ) → number_of limit t ≡ Some v → v ≤ limit
 unfolding number_of pick
 value_within limit t v e = by (leb 1 (length t) && leb (length t) 10 && all digit t) (leb (decimal_from 0 t) limit) refl e
   where
