@@ -1,32 +1,27 @@
 // The program's arguments.
 ghost use Rattle.files.specs.Fronts.{IsFront};
 
-use files::files::Front;
-use files::streams::STDERR_FILENO;
+use files::streams::StandardError;
 use std::env::FillError;
+use std::fmt::Write;
 use std::rt::Env;
 
 // Says which argument is missing, or too long for the room.
 fn refuse_argument(i: usize, room: usize) {
-    io::write_all(STDERR_FILENO, b"argument ");
-    io::print_decimal(STDERR_FILENO, i as u64);
-    io::write_all(STDERR_FILENO, b" is missing, or longer than ");
-    io::print_decimal(STDERR_FILENO, room as u64);
-    io::write_all(STDERR_FILENO, b" bytes\n");
+    let mut err = StandardError;
+    let _ = writeln!(err, "argument {i} is missing, or longer than {room} bytes");
 }
 
-// Argument i, in the buffer that is lent; where it is missing or too long, standard error has the reason.
-pub fn argument<R: Env>(rt: &R, i: usize, buf: &mut [u8]) -> Front
+// Argument i, in the buffer that is lent: how many bytes it has. Where it is missing or too long, standard error has the reason.
+// The library's iterator of arguments ends at the first that is not text, and a path need not be.
+pub fn argument<R: Env>(rt: &R, i: usize, buf: &mut [u8]) -> Option<usize>
     ensures { IsFront buf.new result }
 {
     match rt.arg(i, buf) {
-        Ok(len) => Front { whole: true, len },
+        Ok(len) => Some(len),
         Err(_) => {
             refuse_argument(i, buf.len());
-            Front {
-                whole: false,
-                len: 0,
-            }
+            None
         },
     }
 }
@@ -41,10 +36,7 @@ fn is_there<R: Env>(rt: &R, i: usize) -> bool {
 
 // How many arguments the program was started with, its own name among them.
 pub fn argument_count<R: Env>(rt: &R) -> usize {
-    for i in 0..usize::MAX {
-        if !is_there(rt, i) {
-            return i;
-        }
-    }
-    usize::MAX
+    (0..usize::MAX)
+        .find(|i| !is_there(rt, *i))
+        .unwrap_or(usize::MAX)
 }

@@ -1,9 +1,7 @@
 -- What is read of arguments and files, which the system gives.
-use Rattle.std.specs.Prelude.{◌≡◌, false, List, ℕ}
+use Rattle.std.specs.Prelude.{List, ℕ, Option, IfSome}
 use Rattle.io.specs.Counts.{IsPrefixLen}
-use Rattle.files.specs.declared.files.Front.{Front}
 
--- bytes at the front of a buffer, and none where not all could be had
-pub record IsFront (buffer : List ℕ) (r : Front) : Type 0 where
-  pub counts : IsPrefixLen r.len buffer
-  pub whole_or_none : r.whole ≡ false → r.len ≡ 0
+-- how many bytes at the front of a buffer are what was asked for; none where not all could be had
+abbrev pub IsFront : List ℕ → Option ℕ → Type 0
+IsFront buffer r = IfSome r (λ n. IsPrefixLen n buffer)

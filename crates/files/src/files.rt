@@ -1,52 +1,15 @@
 // Whole files.
-ghost use Rattle.std.specs.Prelude.{◌≡◌, false, IfOk};
+ghost use Rattle.std.specs.Prelude.{IfOk};
 ghost use Rattle.io.specs.Counts.{IsPrefixLen};
 ghost use Rattle.files.specs.Fronts.{IsFront};
 
-use crate::reasons::fail;
-use crate::streams::STDERR_FILENO;
+use crate::reasons::{Unread, fail};
 use std::fs::File;
 use std::io::{Error, Read};
 use std::rt::Files;
 
-// The first len bytes of a buffer that was lent: the whole argument or file, or none of it.
-#[derive(Clone, Copy)]
-pub struct Front {
-    pub whole: bool,
-    pub len: usize,
-}
-
-// A path that is not text, which the library can't open.
-fn refuse_path(path: &[u8]) {
-    io::write_all(STDERR_FILENO, path);
-    io::write_all(STDERR_FILENO, b": the path is not UTF-8\n");
-}
-
-// A file longer than the room for it.
-fn refuse_long(path: &[u8], room: u64) {
-    io::write_all(STDERR_FILENO, path);
-    io::write_all(STDERR_FILENO, b": longer than ");
-    io::print_decimal(STDERR_FILENO, room);
-    io::write_all(STDERR_FILENO, b" bytes\n");
-}
-
-// Whether a file has no more bytes than were read; where it has, or can't be read, standard error has the reason.
-fn is_at_end<F: Read>(file: &mut F, path: &[u8], room: u64) -> bool {
-    let mut more = [0u8; 1];
-    match file.read(&mut more) {
-        Ok(0) => true,
-        Ok(_) => {
-            refuse_long(path, room);
-            false
-        },
-        Err(error) => {
-            fail(path, error);
-            false
-        },
-    }
-}
-
 // Reads until the buffer is full or the file ends; how many bytes were read, or why a read failed.
+// A loop of our own: the library reads to the end of a file only into memory that it allocates.
 fn read_full<F: Read>(file: &mut F, buf: &mut [u8]) -> Result<usize, Error>
     ensures { IfOk result (λ n. IsPrefixLen n buf.new) }
 {
@@ -54,54 +17,48 @@ fn read_full<F: Read>(file: &mut F, buf: &mut [u8]) -> Result<usize, Error>
     while done < buf.len() {
         let got = file.read(&mut buf[done..])?;
         if got == 0 {
-            return Ok(done);
+            break;
         }
         done += got;
     }
     Ok(done)
 }
 
-// Nothing of an argument or a file.
-fn refused() -> Front
-    ensures whole { result.whole ≡ false }
-    ensures len { result.len ≡ 0 }
+// Whether a file has no more bytes than were read.
+fn is_at_end<F: Read>(file: &mut F) -> Result<bool, Error> {
+    Ok(file.read(&mut [0u8; 1])? == 0)
+}
+
+// The whole of an open file.
+fn read_open<F: Read>(file: &mut F, buf: &mut [u8]) -> Result<usize, Unread>
+    ensures { IfOk result (λ n. IsPrefixLen n buf.new) }
 {
-    Front {
-        whole: false,
-        len: 0,
+    let len = read_full(file, buf)?;
+    if is_at_end(file)? {
+        Ok(len)
+    } else {
+        Err(Unread::Longer(buf.len()))
     }
 }
 
-// The whole of an open file; where it can't be had, standard error has the reason.
-fn read_open<F: Read>(file: &mut F, path: &[u8], buf: &mut [u8]) -> Front
-    ensures { IsFront buf.new result }
+// The whole file of this path, which the library opens only where it is text.
+fn read_path<R: Files>(rt: &R, path: &[u8], buf: &mut [u8]) -> Result<usize, Unread>
+    ensures { IfOk result (λ n. IsPrefixLen n buf.new) }
 {
-    let len = match read_full(file, buf) {
-        Ok(len) => len,
-        Err(error) => {
-            fail(path, error);
-            return refused();
-        },
-    };
-    if !is_at_end(file, path, buf.len() as u64) {
-        return refused();
-    }
-    Front { whole: true, len }
+    let name = str::from_utf8(path)?;
+    let mut file = File::open(rt, name)?;
+    read_open(&mut file, buf)
 }
 
-// The whole file of this path, in the buffer that is lent; where it can't be had, standard error has the reason.
-pub fn read_file<R: Files>(rt: &R, path: &[u8], buf: &mut [u8]) -> Front
+// The whole file of this path, in the buffer that is lent: how many bytes it has. Where it can't be had, standard error has the reason.
+pub fn read_file<R: Files>(rt: &R, path: &[u8], buf: &mut [u8]) -> Option<usize>
     ensures { IsFront buf.new result }
 {
-    let Ok(name) = str::from_utf8(path) else {
-        refuse_path(path);
-        return refused();
-    };
-    match File::open(rt, name) {
-        Ok(mut file) => read_open(&mut file, path, buf),
-        Err(error) => {
-            fail(path, error);
-            refused()
+    match read_path(rt, path, buf) {
+        Ok(len) => Some(len),
+        Err(reason) => {
+            fail(path, reason);
+            None
         },
     }
 }
