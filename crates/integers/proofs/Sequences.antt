@@ -23,6 +23,10 @@ unfolding join_all
 joined_snoc f [] x = append-nil (f x)
 joined_snoc f (y ∷ xs) x = ap (λ (l : List ℕ). f y ++ l) (joined_snoc f xs x) ∙ sym (append_assoc (f y) (join_all (map f xs)) (f x))
 
+-- the same bytes, said otherwise
+pub put_is : (x y d e : List ℕ) (r : ℕ) → IsPut x d e r → x ≡ y → IsPut y d e r
+put_is x y d e r p q = rw q at p
+
 pub begin : {A : Type 0} (f : A → List ℕ) (width : ℕ) (xs : List A) (d : List ℕ) → Placed f width xs d d 0 0
 unfolding join_all
 begin f width xs d = record { put = nothing d; count = omega arith }
