@@ -1,6 +1,6 @@
 // The bytes of a number, put at the front of the buffer that is lent.
-ghost use Rattle.std.specs.Prelude.{◌≡◌, ◌≤◌, ℕ, length};
-ghost use Rattle.rules.specs.Lists.{be, le};
+ghost use Rattle.std.specs.Prelude.{◌≡◌, ◌≤◌, ◌*◌, ℕ, length, map};
+ghost use Rattle.rules.specs.Lists.{be, le, join_all};
 ghost use Rattle.buffer.specs.Put.{IsPut};
 
 use buffer::put::put_bytes;
@@ -46,6 +46,19 @@ pub fn put_be<const WIDTH: usize, N: Number<WIDTH>>(out: &mut [u8], n: N) -> usi
     put_bytes(out, &n.highest_first())
 }
 
+// Numbers, one behind the other.
+pub fn put_each_be<const WIDTH: usize, N: Number<WIDTH>>(out: &mut [u8], numbers: &[N]) -> usize
+    requires { WIDTH * length numbers.now ≤ length out.old }
+    ensures put { IsPut (join_all (map (λ n. be WIDTH (N.value n)) numbers.now)) out.old out.new result }
+    ensures value { result ≡ WIDTH * length numbers.now }
+{
+    let mut used = 0;
+    for &n in numbers {
+        used += put_be(&mut out[used..], n);
+    }
+    used
+}
+
 // The lowest bytes of a number, as many as width says, the lowest first.
 pub fn put_le(out: &mut [u8], width: usize, n: u64) -> usize
     requires { width ≤ length out.old }
@@ -58,4 +71,16 @@ pub fn put_le(out: &mut [u8], width: usize, n: u64) -> usize
         rest = rest / 256;
     }
     width
+}
+
+pub fn put_each_le(out: &mut [u8], width: usize, numbers: &[u64]) -> usize
+    requires { width * length numbers.now ≤ length out.old }
+    ensures put { IsPut (join_all (map (le width) numbers.now)) out.old out.new result }
+    ensures value { result ≡ width * length numbers.now }
+{
+    let mut used = 0;
+    for &n in numbers {
+        used += put_le(&mut out[used..], width, n);
+    }
+    used
 }
