@@ -1,6 +1,8 @@
 -- The laws of digits: a byte's value, and the number that digits say.
 use Rattle.std.proofs.Common.{◌≡◌, refl, ap, ◌∙◌, sym, ℕ, suc, ◌+◌, ◌*◌, ◌-◌, ◌^◌, ◌<◌, ◌≤◌, List, [], ◌∷◌, length, get_or, drop, Option, Some, None, Bool, true, false, ◌&&◌, ◌||◌, arith, rules, leb, eqb, Fits, w64, add-one}
 use Rattle.std.specs.Option.{option_and_then}
+use Rattle.std.proofs.lemmas.Option.{none-some}
+use native.Mathlib.Nat.{add-zero}
 use borrow.Author.Tests.{le-leb, lt-leb, ne_eqb, eq-eqb}
 use Rattle.std.proofs.Math.Nat.{mul-le-mul_left, pow-suc, pow-le-pow_right}
 use lib.Dec.{lit<}
@@ -63,21 +65,37 @@ unfolding value_from
 at_end base digit_of s v i h = rw (drop_of_length-le s h) refl
 
 -- a digit more is at most sixteen times as much
+product : (base v : ℕ) → base ≤ 16 → v * base ≤ v * 16
+product base v b = mul-le-mul_left v b
+
+pub more_digits : (base v i : ℕ) → base ≤ 16 → v < 16 ^ i → (d : ℕ) → d < 16 → v * base + d < 16 ^ (i + 1)
+more_digits base v i b h d k = let p = product base v b in rw (add-one, pow-suc) (omega arith)
+
 module _ (base v i n : ℕ) (b : base ≤ 16) (h : v < 16 ^ i) (l : i < n) (m : n ≤ 16) where
-  product : v * base ≤ v * 16
-  product = mul-le-mul_left v b
-
-  pub more_digits : (d : ℕ) → d < 16 → v * base + d < 16 ^ (i + 1)
-  more_digits d k = rw (add-one, pow-suc) (let p = product in omega arith)
-
   small : v < 1152921504606846976
   small = omega (arith, pow-le-pow_right {n = 16} (lit< tt) (let q : i ≤ 15 = omega arith in q))
 
   pub times_fits : Fits w64 (v * base)
-  times_fits = let p = product in let s = small in omega arith
+  times_fits = let p = product base v b in let s = small in omega arith
 
   pub more_fits : (d : ℕ) → d < 16 → Fits w64 (v * base + d)
-  more_fits d k = let p = product in let s = small in omega arith
+  more_fits d k = let p = product base v b in let s = small in omega arith
+
+-- what n digits say is below 16 ^ n
+module _ (base : ℕ) (digit_of : ℕ → Option ℕ) (few : base ≤ 16) (below : (b d : ℕ) → digit_of b ≡ Some d → d < 16) where
+  value_grows : (t : List ℕ) (n i v : ℕ) → n < 16 ^ i → value_from base digit_of n t ≡ Some v → v < 16 ^ (i + length t)
+  unfolding value_from
+  value_grows [] n i v h e = let q : n ≡ v = cc in rw (add-zero i, ← q) h
+  value_grows (b ∷ bs) n i v h e =
+      let q : i + length (b ∷ bs) ≡ i + 1 + length bs = omega arith in
+      rw q (by (λ m l q. value_grows bs m (i + 1) v l q) (digit_of b) refl e)
+    where
+      by : ((m : ℕ) → m < 16 ^ (i + 1) → value_from base digit_of m bs ≡ Some v → v < 16 ^ (i + 1 + length bs)) → (u : Option ℕ) → digit_of b ≡ u → option_and_then (λ d. value_from base digit_of (n * base + d) bs) u ≡ Some v → v < 16 ^ (i + 1 + length bs)
+      by g None r e = absurd (none-some _ e)
+      by g (Some d) r e = g (n * base + d) (more_digits base n i few h d (below b d r)) e
+
+  pub value_below : (t : List ℕ) (v : ℕ) → value_from base digit_of 0 t ≡ Some v → v < 16 ^ length t
+  value_below t v e = let q : length t ≡ 0 + length t = omega arith in rw q (value_grows t 0 0 v (lit< tt) e)
 
 -- where digits are those that pass a test, and worth a number each, they say a number if all pass
 module _ (base : ℕ) {digit_of : ℕ → Option ℕ} (good : ℕ → Bool) (worth : ℕ → ℕ) (reads : (b : ℕ) → digit_of b ≡ pick (good b) (Some (worth b)) None)

@@ -14,7 +14,7 @@ overflow_add-value g c =
 
 pub loop-b-preserved : goal.loop-b-preserved
 loop-b-preserved g c = (
-  more_digits c.BASE.result _ _ _ (rw c.BASE.ensures g.met.R.Radix.few) c.loop-b.invariant.0 c.loop-b-test.true c.requires _ (g.met.R.Radix.below _ _ (sym c.in_ok-digit.ensures)),
+  more_digits c.BASE.result _ _ (rw c.BASE.ensures g.met.R.Radix.few) c.loop-b.invariant.0 _ (g.met.R.Radix.below _ _ (sym c.in_ok-digit.ensures)),
   rw c.BASE.ensures (c.loop-b.invariant.1 ∙ next _ g.R.Radix.digit_of c.args.text.now _ _ c.loop-b-test.true _ c.in_ok-digit.ensures),
 )
 
