@@ -9,88 +9,76 @@ ghost use Rattle.std.specs.Prelude.{◌≤◌};
 use compiler::compile::compile;
 use console::arguments::{argument, argument_count};
 use files::files::read_file;
-use files::streams::STDOUT_FILENO;
 use hexadecimal::hex::print_hex;
-use numbers::numbers::{NumberRead, number};
-use rules::faults::Answer;
+use numbers::numbers::number;
+use refusals::faults;
+use rules::faults::{Answer, Fault};
+use std::io::Error;
 use std::rt::{Env, Files};
 
-fn print_after_space(n: u64) {
-    io::write_all(STDOUT_FILENO, b" ");
-    io::print_decimal(STDOUT_FILENO, n);
+const MOST_ROOM: u64 = 65536;
+
+// The records that stand at the front of the room, where there are any.
+fn print_records<R: Print>(rt: &R, records: Option<&[u8]>) -> Result<(), Error> {
+    match records {
+        None | Some([]) => Ok(()),
+        Some(bytes) => {
+            print!(rt; " ")?;
+            print_hex(rt, bytes)
+        },
+    }
 }
 
-fn print_answer(answer: Answer) {
-    let fault = answer.fault;
-    print_after_space(refusals::faults::number(fault));
-    print_after_space(answer.line as u64);
-    print_after_space(answer.field as u64);
-    print_after_space(answer.bytes as u64);
+fn compile_and_print<R: Print>(rt: &R, source: &[u8], out: &mut [u8]) -> Result<(), Error> {
+    let Answer {
+        fault,
+        line,
+        field,
+        bytes,
+    } = compile(source, 1000, out);
+    let number = faults::number(fault);
+    print!(rt; " {number} {line} {field} {bytes}")?;
+    if fault == Fault::Done {
+        print_records(rt, out.get(..bytes))?;
+    }
+    Ok(())
 }
 
-fn compile_and_print<R: Print>(rt: &R, source: &[u8], out: &mut [u8]) {
-    let answer = compile(source, 1000, out);
-    print_answer(answer);
-    let fault = answer.fault;
-    if refusals::faults::number(fault) != 0 {
-        return;
-    }
-    let len = answer.bytes;
-    if len == 0 {
-        return;
-    }
-    // never so: what is written fits
-    if out.len() < len {
-        return;
-    }
-    io::write_all(STDOUT_FILENO, b" ");
-    let _ = print_hex(rt, &out[..len]);
-}
-
-fn print_file<R: Files + Print>(rt: &R, path: &[u8], room: usize)
+fn print_file<R: Files + Print>(rt: &R, path: &[u8], room: usize) -> Result<(), Error>
     requires { room ≤ 65536 }
 {
     let mut source = io::large_buffer();
-    let read = read_file(rt, path, &mut source);
-    let whole = read.whole;
-    let len = read.len;
-    if !whole {
-        return;
-    }
-    io::write_all(STDOUT_FILENO, path);
-    print_after_space(room as u64);
+    let Some(len) = read_file(rt, path, &mut source) else {
+        return Ok(());
+    };
+    rt.write_all(path)?;
+    print!(rt; " {room}")?;
     let mut out = io::large_buffer();
-    compile_and_print(rt, &source[..len], &mut out[..room]);
-    io::write_all(STDOUT_FILENO, b"\n");
+    compile_and_print(rt, &source[..len], &mut out[..room])?;
+    println!(rt)
 }
 
-// Argument i: the room, or a file that is compiled with the room there is.
+// Argument i: the room, or a file that is compiled with the room there is. What a write answers is of no use.
 fn room_after<R: Env + Files + Print>(rt: &R, i: usize, room: usize) -> usize
     requires { room ≤ 65536 }
     ensures { result ≤ 65536 }
 {
     let mut text = io::buffer();
-    let given = argument(rt, i, &mut text);
-    let whole = given.whole;
-    let len = given.len;
-    if !whole {
+    let Some(len) = argument(rt, i, &mut text) else {
         return room;
-    }
-    match number(&text[..len], 65536) {
-        NumberRead::Good(value) => value as usize,
-        NumberRead::Bad => {
-            print_file(rt, &text[..len], room);
+    };
+    match number(&text[..len], MOST_ROOM) {
+        Some(value) => value as usize,
+        None => {
+            let _ = print_file(rt, &text[..len], room);
             room
         },
     }
 }
 
 fn main(rt: HostRuntime) {
-    let count = argument_count(&rt);
     let mut room: usize = 65536;
-    let mut i: usize = 1;
-    while i < count {
+    for i in 1..argument_count(&rt) {
         room = room_after(&rt, i, room);
-        i += 1;
     }
 }

@@ -5,19 +5,18 @@ use mathlib.Core.List.{List}
 use Prim.Native.Nat.{ℕ, ◌≤◌}
 use native.Mathlib.Omega.{arith}
 use borrow.Author.Rules.{rules}
+use Rattle.std.specs.Prelude.{Ok, Err}
 use borrow.Author.Tests.{leb-true}
 use lib.Dec.{leb}
 use lib.ListN.{length}
 use Rattle.rules.specs.Lists.{pick}
-use Rattle.rules.specs.Answers.{fault_number, is_done, answer, judge_source, if_room, compile_answer, source_records}
+use Rattle.rules.specs.Answers.{is_done, answer, judge_source, if_room, compile_answer, source_records}
 use Rattle.rules.specs.Bytes.{size_of_all}
 use Rattle.rules.specs.declared.faults.Fault.{Fault}
 use Rattle.rules.specs.declared.faults.Answer.{Answer}
 use Rattle.compiler.specs.Compiled.{IsCompiled}
-use Rattle.refusals.proofs.Numbers.{zero_done, other_refused}
 use Rattle.wire.proofs.Parts.{front_count}
-use Rattle.lookup.specs.Answers.{IsRecords, front_of}
-use Rattle.files.proofs.Fronts.{whole}
+use Rattle.lookup.specs.Answers.{IsRecords, records_of}
 
 -- a fault that is done and is not
 both : (b : Bool) → b ≡ true → b ≡ false → ⊥
@@ -40,28 +39,19 @@ fits s serial room a e d = by (judge_source s) (is_done (judge_source s).fault) 
     by j true q p = within_room (size_of_all (source_records serial s)) room a (unfold pick in p) d
     by j false q p = absurd (both (is_done a.fault) d (unfold pick in ap (λ (x : Answer). is_done x.fault) p ∙ q))
 
-module _ (s : List ℕ) (serial : ℕ) (out out' : List ℕ) (a : Answer) (n : ℕ) (e : IsCompiled s serial out out' a) (f : n ≡ fault_number a.fault) where
-  pub refused : (n ≡ 0 → ⊥) → IsRecords s serial out out' (record { answer = a; front = record { whole = false; len = 0 } })
-  unfolding front_of pick
-  refused t =
-      let q : is_done a.fault ≡ false = other_refused a.fault n f t in
-      record {
-        answer = e.answer;
-        front = rw q;
-        output = e.output;
-        is_front = record { counts = (omega arith, refl); whole_or_none = λ _. refl };
-      }
+module _ (s : List ℕ) (serial : ℕ) (out out' : List ℕ) (a : Answer) (e : IsCompiled s serial out out' a) where
+  pub refused : is_done a.fault ≡ false → IsRecords s serial out out' (Err a)
+  unfolding records_of pick
+  refused q = record { answer = rw (← e.answer, q); output = e.output; fits = tt }
 
-  pub compiled : n ≡ 0 → length out' ≡ length out → IsRecords s serial out out' (record { answer = a; front = record { whole = true; len = a.bytes } })
-  unfolding front_of pick
-  compiled t l =
-      let q : is_done a.fault ≡ true = zero_done a.fault n f t in
+  pub compiled : is_done a.fault ≡ true → length out' ≡ length out → IsRecords s serial out out' (Ok a.bytes)
+  unfolding records_of pick
+  compiled q l =
       let b : a.bytes ≤ length out = fits s serial (length out) a e.answer q in
       record {
-        answer = e.answer;
-        front = rw q;
+        answer = rw (← e.answer, q);
         output = e.output;
-        is_front = whole out' a.bytes (omega arith, front_count out' a.bytes (length out) l b);
+        fits = (omega arith, front_count out' a.bytes (length out) l b);
       }
 
 pub ruleset records_laws = (rules, refused, compiled)

@@ -1,18 +1,15 @@
 -- The records that compiling leaves at the front of a buffer.
-use Rattle.std.specs.Prelude.{◌≡◌, List, ℕ, length}
+use Rattle.std.specs.Prelude.{◌≡◌, List, ℕ, length, Result, Ok, Err, IfOk}
+use Rattle.io.specs.Counts.{IsPrefixLen}
 use Rattle.rules.specs.Lists.{pick}
 use Rattle.rules.specs.Answers.{is_done, compile_answer, compile_output}
 use Rattle.rules.specs.declared.faults.Answer.{Answer}
-use Rattle.files.specs.Fronts.{IsFront}
-use Rattle.files.specs.declared.files.Front.{Front}
-use Rattle.lookup.specs.declared.compiled.Compiled.{Compiled}
 
--- none where it is a refusal
-unfoldable pub front_of : Answer → Front
-front_of a = record { whole = is_done a.fault; len = pick (is_done a.fault) a.bytes 0 }
+-- how many bytes they are, or the refusal
+unfoldable pub records_of : Answer → Result ℕ Answer
+records_of a = pick (is_done a.fault) (Ok a.bytes) (Err a)
 
-pub record IsRecords (source : List ℕ) (serial : ℕ) (out out' : List ℕ) (r : Compiled) : Type 0 where
-  pub answer : r.answer ≡ compile_answer source serial (length out)
-  pub front : r.front ≡ front_of r.answer
+pub record IsRecords (source : List ℕ) (serial : ℕ) (out out' : List ℕ) (r : Result ℕ Answer) : Type 0 where
+  pub answer : r ≡ records_of (compile_answer source serial (length out))
   pub output : out' ≡ compile_output source serial out
-  pub is_front : IsFront out' r.front
+  pub fits : IfOk r (λ n. IsPrefixLen n out')

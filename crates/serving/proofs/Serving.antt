@@ -2,59 +2,40 @@
 use mathlib.Core.Path.{◌≡◌, refl, sym, ap, ◌∙◌}
 use mathlib.Core.Bool.{true, false, true≢false}
 use mathlib.Core.List.{List}
+use Rattle.std.specs.Prelude.{Ok, Err}
 use Prim.Native.Nat.{ℕ, ◌≤◌}
 use native.Mathlib.Omega.{arith}
 use borrow.Author.Rules.{rules}
 use lib.ListN.{length, take}
 use Rattle.rules.specs.declared.faults.Answer.{Answer}
 use Rattle.rules.specs.declared.faults.Fault.{Fault}
-use Rattle.rules.specs.declared.faults.FieldKind.{FieldKind}
 use Rattle.rules.specs.declared.replies.Response.{Response}
 use Rattle.rules.specs.Lists.{pick}
-use Rattle.rules.specs.Answers.{fault_number, is_done, answer}
+use Rattle.rules.specs.Answers.{is_done, answer}
 use Rattle.rules.specs.Questions.{Question}
 use Rattle.rules.specs.Reading.{ask_response}
 use Rattle.rules.specs.Demands.{Accepted, bytes_needed, CompilingRefusesExactly, compiled_bytes}
 use Rattle.rules.proofs.Refusals.{refuses_exactly}
-use Rattle.refusals.proofs.Numbers.{zero_done, other_refused}
+use Rattle.refusals.proofs.Done.{done_is_done, other_is_refused}
 use Rattle.wire.proofs.Parts.{front_count}
 use Rattle.compiler.specs.Compiled.{IsCompiled}
-use Rattle.vahmizar.specs.declared.served.Served.{Served}
 use Rattle.vahmizar.specs.Promises.{served_numbers, Serves}
 use Rattle.vahmizar.proofs.Kept.{is_done_lem, tells_in}
 
--- only the number 0 is done
-done_is : (f : Fault) → is_done f ≡ true → f ≡ Fault.Done
-unfolding is_done
-done_is Fault.Done e = refl
-done_is Fault.SourceTooLong e = absurd (true≢false (sym e))
-done_is Fault.LineTooLong e = absurd (true≢false (sym e))
-done_is Fault.UnknownKind e = absurd (true≢false (sym e))
-done_is Fault.TooManyFields e = absurd (true≢false (sym e))
-done_is (Fault.Malformed FieldKind.Name) e = absurd (true≢false (sym e))
-done_is (Fault.Malformed FieldKind.Address) e = absurd (true≢false (sym e))
-done_is (Fault.Malformed FieldKind.Number) e = absurd (true≢false (sym e))
-done_is (Fault.Malformed FieldKind.Time) e = absurd (true≢false (sym e))
-done_is (Fault.Malformed FieldKind.Lo) e = absurd (true≢false (sym e))
-done_is (Fault.Malformed FieldKind.Escape) e = absurd (true≢false (sym e))
-done_is Fault.ReservedType e = absurd (true≢false (sym e))
-done_is (Fault.Empty kind) e = absurd (true≢false (sym e))
-done_is Fault.NoRoom e = absurd (true≢false (sym e))
-
-module _ (source : List ℕ) (serial : ℕ) (out out' : List ℕ) (a : Answer) (n : ℕ) (c : IsCompiled source serial out out' a) (f : n ≡ fault_number a.fault) where
+module _ (source : List ℕ) (serial : ℕ) (out out' : List ℕ) (a : Answer) (c : IsCompiled source serial out out' a) where
   -- compiling is done exactly where the source is accepted and there is room
   accepted_done : Accepted source → bytes_needed serial source ≤ length out → is_done a.fault ≡ true
   unfolding answer is_done
   accepted_done ok room = ap (λ (x : Answer). is_done x.fault) (c.answer ∙ is_done_lem source serial out ok room)
 
-  done_accepted : n ≡ 0 → Accepted source × (bytes_needed serial source ≤ length out)
+  done_accepted : a.fault ≡ Fault.Done → Accepted source × (bytes_needed serial source ≤ length out)
   unfolding CompilingRefusesExactly
-  done_accepted d = (refuses_exactly source serial (length out)).only_done (ap (λ (x : Answer). x.fault) (sym c.answer) ∙ done_is a.fault (zero_done a.fault n f d))
+  done_accepted d = (refuses_exactly source serial (length out)).only_done (ap (λ (x : Answer). x.fault) (sym c.answer) ∙ d)
 
-  pub not_compiled : (q : Question) (ordinal : ℕ) → (n ≡ 0 → ⊥) → Serves source serial out q ordinal out' (Served.NotCompiled a)
+  pub not_compiled : (q : Question) (ordinal : ℕ) → (a.fault ≡ Fault.Done → ⊥) → Serves source serial out q ordinal out' (Err a)
   unfolding pick served_numbers
   not_compiled q ordinal t =
-      let d : is_done a.fault ≡ false = other_refused a.fault n f t in
+      let d : is_done a.fault ≡ false = other_is_refused a.fault t in
       record {
         served = rw (← c.answer, d);
         numbers = rw (← c.answer, d);
@@ -62,7 +43,7 @@ module _ (source : List ℕ) (serial : ℕ) (out out' : List ℕ) (a : Answer) (
         meaning = λ ok room askable. absurd (true≢false (sym (accepted_done ok room) ∙ d));
       }
 
-  module _ (t : n ≡ 0) where
+  module _ (t : a.fault ≡ Fault.Done) where
     is_accepted : Accepted source × (bytes_needed serial source ≤ length out)
     is_accepted = done_accepted t
 
@@ -77,10 +58,10 @@ module _ (source : List ℕ) (serial : ℕ) (out out' : List ℕ) (a : Answer) (
     written_count e = front_count out' a.bytes (length out') refl (written_fits e)
 
     pub served : (q : Question) (ordinal : ℕ) (said : Response) → said ≡ ask_response (take a.bytes out') q ordinal
-        → Serves source serial out q ordinal out' (Served.Asked said)
+        → Serves source serial out q ordinal out' (Ok said)
     unfolding pick compiled_bytes served_numbers
     served q ordinal said e =
-        let d : is_done a.fault ≡ true = zero_done a.fault n f t in
+        let d : is_done a.fault ≡ true = done_is_done a.fault t in
         record {
           served = rw (← c.answer, d, ← c.output, ← e);
           numbers = rw (← c.answer, d, ← c.output, ← e);

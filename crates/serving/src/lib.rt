@@ -6,7 +6,7 @@ ghost use Rattle.vahmizar.specs.Promises.{Serves};
 
 use compiler::compile::compile;
 use reader::ask;
-use refusals::faults::number;
+use rules::faults::Fault;
 use rules::quantities::Moment;
 use vahmizar::served::Served;
 
@@ -23,10 +23,11 @@ pub fn compile_and_ask(
     ensures { Serves source.now serial out.old (record { name = name.entry.now; type = qtype; client = client.now; moment = moment.0 }) ordinal out.new result }
 {
     let said = compile(source, serial, out);
-    let fault = said.fault;
-    if number(fault) != 0 {
-        return Served::NotCompiled(said);
+    match said.fault {
+        Fault::Done => {
+            let written = said.bytes;
+            Ok(ask(&out[..written], name, qtype, client, moment, ordinal))
+        },
+        _ => Err(said),
     }
-    let written = said.bytes;
-    Served::Asked(ask(&out[..written], name, qtype, client, moment, ordinal))
 }

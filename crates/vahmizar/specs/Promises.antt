@@ -1,5 +1,5 @@
 -- What is promised of the calls, on every input; nothing is assumed of any byte. The definitions are those of `rules`.
-use Rattle.std.specs.Prelude.{ℕ, ◌≤◌, ◌<◌, ◌≡◌, List, map, ◌⊎◌, length, take, T, eqb}
+use Rattle.std.specs.Prelude.{ℕ, ◌≤◌, ◌<◌, ◌≡◌, List, map, ◌⊎◌, length, take, T, eqb, Result, Ok, Err}
 use Rattle.rules.specs.declared.faults.Answer.{Answer}
 use Rattle.rules.specs.declared.replies.Response.{Response}
 use Rattle.rules.specs.Lists.{pick, join_all, le}
@@ -8,7 +8,6 @@ use Rattle.rules.specs.Answers.{fault_number, numbers_of, is_done, source_record
 use Rattle.rules.specs.Questions.{Question}
 use Rattle.rules.specs.Reading.{moment_end, reply_number, response_numbers, ask_response}
 use Rattle.rules.specs.Demands.{Accepted, bytes_needed, RefusesExactly, compiled_bytes, Tells}
-use Rattle.vahmizar.specs.declared.served.Served.{Served}
 
 -- an answer's numbers in its lent slice: "8 bytes each, little-endian, in the order named above"
 unfoldable pub laid : List ℕ → List ℕ
@@ -76,19 +75,19 @@ TheCallsKeepTheMeaning =
 -- ---- The same over running code: compile_and_ask compiles into `out`, then asks exactly what it wrote there
 
 -- the numbers of what was answered, by the call that answered it
-unfoldable pub served_numbers : Served → List ℕ
-served_numbers (Served.NotCompiled answer) = numbers_of answer
-served_numbers (Served.Asked response) = response_numbers response
+unfoldable pub served_numbers : Result Response Answer → List ℕ
+served_numbers (Ok response) = response_numbers response
+served_numbers (Err answer) = numbers_of answer
 
 -- Rules out: a question put to another part of `out` than was written; only the first record asked for, whatever the ordinal.
-pub record Serves (source : List ℕ) (serial : ℕ) (out : List ℕ) (q : Question) (ordinal : ℕ) (out' : List ℕ) (r : Served) : Type 0 where
+pub record Serves (source : List ℕ) (serial : ℕ) (out : List ℕ) (q : Question) (ordinal : ℕ) (out' : List ℕ) (r : Result Response Answer) : Type 0 where
   pub served :
-      r ≡ pick (is_done (compile_answer source serial (length out)).fault) (Served.Asked (ask_response (compiled_bytes source serial out) q ordinal))
-      (Served.NotCompiled (compile_answer source serial (length out)))
+      r ≡ pick (is_done (compile_answer source serial (length out)).fault) (Ok (ask_response (compiled_bytes source serial out) q ordinal))
+      (Err (compile_answer source serial (length out)))
   pub numbers :
       served_numbers r ≡ pick (is_done (compile_answer source serial (length out)).fault) (response_numbers (ask_response (compiled_bytes source serial out) q ordinal))
       (numbers_of (compile_answer source serial (length out)))
   pub output : out' ≡ compile_output source serial out
   pub meaning :
       Accepted source → bytes_needed serial source ≤ length out → Askable q
-      → (said : Response) × ((r ≡ Served.Asked said) × Tells (take (bytes_needed serial source) out') (source_records serial source) q ordinal said)
+      → (said : Response) × ((r ≡ Ok said) × Tells (take (bytes_needed serial source) out') (source_records serial source) q ordinal said)

@@ -2,8 +2,5 @@
 use rules::faults::Answer;
 use rules::replies::Response;
 
-#[derive(Clone, Copy)]
-pub enum Served {
-    NotCompiled(Answer),
-    Asked(Response),
-}
+// What asking answered, or the refusal of the source.
+pub type Served = Result<Response, Answer>;
