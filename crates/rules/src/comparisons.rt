@@ -1,6 +1,6 @@
 // What a comparison of names says. specs/Comparing.antt has its meaning.
 
-// Whether two names are the same bytes, and how many byte pairs were read to tell.
+// Whether two names are the same bytes, and how many byte pairs were read to tell: a count that is said in both cases.
 #[derive(Clone, Copy, Debug, PartialEq, Eq)]
 pub struct Compared {
     pub same: bool,

@@ -12,7 +12,8 @@ pub enum FieldKind {
     Escape,
 }
 
-// Why compiling refuses, or that it is done.
+// Why compiling refuses, or that it is done. Done is a case and no Result's Ok: the scope asks for one answer struct that holds
+// this enum, whose numbers count it as 0, and RefusesExactly of specs/Demands.antt speaks of it.
 #[derive(Clone, Copy, Debug, PartialEq, Eq)]
 pub enum Fault {
     Done,
@@ -35,7 +36,7 @@ pub struct Answer {
     pub bytes: usize,
 }
 
-// The first fault of a line, with its field.
+// The first fault of a line, with its field; Done with 0 where there is none, as line_fault of specs/Answers.antt says it.
 #[derive(Clone, Copy, Debug, PartialEq, Eq)]
 pub struct LineFault {
     pub fault: Fault,

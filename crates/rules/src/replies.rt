@@ -10,6 +10,8 @@ pub enum AskFault {
     Records,
 }
 
+// NoMore and Refused are cases beside the record, and no Result: reply_number of specs/Reading.antt and the statements over it count
+// them, each with a number of the scope.
 #[derive(Clone, Copy, Debug, PartialEq, Eq)]
 pub enum Reply {
     // A record of the answer: its data stand at place, counted from 0, in the compiled bytes.
