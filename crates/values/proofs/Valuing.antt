@@ -19,7 +19,7 @@ use Rattle.times.specs.Views.{time_read}
 use Rattle.codes.specs.Views.{lo_read}
 use Rattle.times.specs.declared.times.TimeRead.{TimeRead}
 use Rattle.codes.specs.declared.codes.LoRead.{LoRead}
-use Rattle.rows.specs.Rows.{row_of}
+use Rattle.rows.specs.Rows.{IsRow}
 use Rattle.rows.specs.declared.rows.Row.{Row}
 use Rattle.rows.proofs.Table.{count_most}
 
@@ -95,21 +95,13 @@ default_most Kind.Authority = omega arith
 default_most Kind.Generic = omega arith
 default_most Kind.Unknown = omega arith
 
-module _ (kind : Kind) (row : Row) (e : row ≡ row_of kind) where
-  count_is : row.count ≡ field_count kind
-  unfolding row_of
-  count_is = ap (λ (r : Row). r.count) e
-
-  ttl_is : row.ttl ≡ default_ttl kind
-  unfolding row_of
-  ttl_is = ap (λ (r : Row). r.ttl) e
-
+module _ (kind : Kind) (row : Row) (e : IsRow kind row) where
   pub default_fits : row.ttl ≤ 2147483647
-  default_fits = omega (arith, ttl_is, default_most kind)
+  default_fits = omega (arith, e.ttl, default_most kind)
 
   -- the places of the last three fields
   pub last_fields : 3 ≤ field_count kind → (3 ≤ row.count) × (row.count ≤ 11)
-  last_fields h = (omega (arith, count_is), omega (arith, count_is, count_most kind))
+  last_fields h = (omega (arith, e.count), omega (arith, e.count, count_most kind))
 
   pub shared_is : (fields : List (List ℕ)) (ttl : Ttl) (time : Moment) (lo : Lo)
       → ttl.0 ≡ number_or row.ttl largest_ttl (field_at fields (row.count - 3))
@@ -118,7 +110,7 @@ module _ (kind : Kind) (row : Row) (e : row ≡ row_of kind) where
       → record { ttl = ttl; time = time; lo = lo } ≡ shared_of kind fields
   unfolding shared_of
   shared_is fields ttl time lo a b c =
-      let p : ttl.0 ≡ number_or (default_ttl kind) largest_ttl (field_at fields (field_count kind - 3)) = a ∙ rw (ttl_is, count_is) in
-      let q : time.0 ≡ value_or 0 (time_of (field_at fields (field_count kind - 2))) = b ∙ rw count_is in
-      let r : lo ≡ value_or Lo.Every (lo_of (field_at fields (field_count kind - 1))) = c ∙ rw count_is in
+      let p : ttl.0 ≡ number_or (default_ttl kind) largest_ttl (field_at fields (field_count kind - 3)) = a ∙ rw (e.ttl, e.count) in
+      let q : time.0 ≡ value_or 0 (time_of (field_at fields (field_count kind - 2))) = b ∙ rw e.count in
+      let r : lo ≡ value_or Lo.Every (lo_of (field_at fields (field_count kind - 1))) = c ∙ rw e.count in
       λ i. record { ttl = record { 0 = p i }; time = record { 0 = q i }; lo = r i }
