@@ -1,7 +1,7 @@
 -- The laws of the values of fields.
 use mathlib.Core.Path.{◌≡◌, ap, ◌∙◌}
 use mathlib.Core.List.{List}
-use Rattle.std.specs.Prelude.{Option, Some, None}
+use Rattle.std.specs.Prelude.{Option, Some, None, option_map}
 use Rattle.std.specs.Option.{unwrap_or}
 use Prim.Native.Nat.{ℕ, ◌-◌, ◌≤◌}
 use native.Mathlib.Omega.{arith}
@@ -15,10 +15,6 @@ use Rattle.rules.specs.declared.quantities.Lo.{Lo}
 use Rattle.rules.specs.declared.quantities.Moment.{Moment}
 use Rattle.rules.specs.declared.quantities.Ttl.{Ttl}
 use Rattle.rules.proofs.Fields.{number_most}
-use Rattle.times.specs.Views.{time_read}
-use Rattle.codes.specs.Views.{lo_read}
-use Rattle.times.specs.declared.times.TimeRead.{TimeRead}
-use Rattle.codes.specs.declared.codes.LoRead.{LoRead}
 use Rattle.rows.specs.Rows.{IsRow}
 use Rattle.rows.specs.declared.rows.Row.{Row}
 use Rattle.rows.proofs.Table.{count_most}
@@ -34,25 +30,17 @@ number_is t limit default n (Some m) e u h =
 
 pub ruleset number_laws = (rules, number_is)
 
-module _ (t : List ℕ) (r : TimeRead) (e : time_read r ≡ time_of t) where
-  pub time_is : (m : Moment) → r ≡ TimeRead.Good m → m.0 ≡ value_or 0 (time_of t)
-  unfolding value_or
-  time_is m q = rw (← e, q)
+pub time_is : (t : List ℕ) (r : Option Moment) (m : Moment) → option_map (λ m. m.0) r ≡ time_of t → m ≡ unwrap_or r (record { 0 = 0 }) → m.0 ≡ value_or 0 (time_of t)
+unfolding value_or
+time_is t None m e u = rw (← e, u)
+time_is t (Some n) m e u = rw (← e, u)
 
-  pub time_not : r ≡ TimeRead.Bad → 0 ≡ value_or 0 (time_of t)
-  unfolding value_or
-  time_not q = rw (← e, q)
+pub lo_is : (t : List ℕ) (r : Option Lo) (code : Lo) → r ≡ lo_of t → code ≡ unwrap_or r Lo.Every → code ≡ value_or Lo.Every (lo_of t)
+unfolding value_or
+lo_is t None code e u = rw (← e) u
+lo_is t (Some c) code e u = rw (← e) u
 
-module _ (t : List ℕ) (r : LoRead) (e : lo_read r ≡ lo_of t) where
-  pub lo_is : (code : Lo) → r ≡ LoRead.Good code → code ≡ value_or Lo.Every (lo_of t)
-  unfolding value_or
-  lo_is code q = rw (← e, q)
-
-  pub lo_not : r ≡ LoRead.Bad → Lo.Every ≡ value_or Lo.Every (lo_of t)
-  unfolding value_or
-  lo_not q = rw (← e, q)
-
-pub ruleset code_laws = (rules, time_is, time_not, lo_is, lo_not)
+pub ruleset code_laws = (rules, time_is, lo_is)
 
 -- ---- a value of a field
 
