@@ -1,3 +1,3 @@
-pub mod Address
+pub mod Forms
 pub mod GroupsBytes
 pub mod HoldingAddress

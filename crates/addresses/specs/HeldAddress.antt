@@ -1,11 +1,9 @@
 -- Addresses that are held by value.
-use Rattle.std.specs.Prelude.{◌≡◌, List, ℕ, ◌≤◌, length, take}
-use Rattle.addresses.specs.declared.addresses.AddressRead.{AddressRead}
+use Rattle.std.specs.Prelude.{List, [], ℕ, Option, Some, None}
+use Rattle.addresses.specs.Address.{address_bytes}
+use Rattle.addresses.specs.declared.address.Address.{Address}
 
--- an address that is held by value, of no bytes where there is none
-abbrev pub held_address : AddressRead → List ℕ
-held_address a = take a.len a.bytes
-
-pub record IsHeld (a : AddressRead) : Type 0 where
-  pub few : a.len ≤ 16
-  pub long : length a.bytes ≡ 16
+-- the bytes of an address that is held by value, none where there is none
+abbrev pub held_address : Option Address → List ℕ
+held_address None = []
+held_address (Some a) = address_bytes a

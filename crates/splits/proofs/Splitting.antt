@@ -1,11 +1,11 @@
 -- The laws of the splitter: what each turn of its loop does to the fields found so far, and what the spans say at the end.
 use mathlib.Core.Path.{◌≡◌, refl, ap, ◌∙◌, sym}
-use mathlib.Core.Bool.{true, false, true≢false}
+use mathlib.Core.Bool.{Bool, true, false}
 use mathlib.Core.List.{List, [], ◌∷◌, ◌++◌, map, append-nil}
 use Prim.Native.Nat.{ℕ, zero, suc, ◌+◌, ◌-◌, ◌<◌, ◌≤◌}
 use native.Mathlib.Omega.{arith}
 use borrow.Author.Rules.{rules}
-use borrow.Author.Tests.{eq-eqb, ne_eqb, le-leb, lt-leb}
+use borrow.Author.Tests.{eq-eqb, ne_eqb, le-leb, lt-leb, leb-true, leb-false}
 use lib.Dec.{leb, eqb}
 use lib.ListN.{length, get_or, take, drop, set, replicate, length-append, length-map, length-set, length-drop, drop_of_length-le, get_or-map}
 use lib.Seq.{drop-drop, drop-set-lt, take-suc, get_or-drop, append_snoc, length-take-le}
@@ -15,7 +15,7 @@ use Rattle.rules.specs.Kinds.{field_count, field_at}
 use Rattle.rules.proofs.Lists.{All, nil, cons}
 use Rattle.wire.proofs.Steps.{left_at, take_put}
 use Rattle.rules.specs.declared.kinds.Kind.{Kind}
-use Rattle.rows.specs.Rows.{row_of}
+use Rattle.rows.specs.Rows.{IsRow}
 use Rattle.rows.specs.declared.rows.Row.{Row}
 use Rattle.rows.proofs.Table.{count_most}
 use Rattle.splits.specs.declared.splits.Span.{Span}
@@ -56,7 +56,7 @@ unfolding split_on onto_first pick
 split_some b [] = omega arith
 split_some b (x ∷ s) = by (eqb x b) (split_on b s) (split_some b s)
   where
-    by : (t : mathlib.Core.Bool.Bool) (ps : List (List ℕ)) → 1 ≤ length ps → 1 ≤ length (pick t ([] ∷ ps) (onto_first x ps))
+    by : (t : Bool) (ps : List (List ℕ)) → 1 ≤ length ps → 1 ≤ length (pick t ([] ∷ ps) (onto_first x ps))
     by true ps h = omega arith
     by false [] h = omega arith
     by false (p ∷ ps) h = omega arith
@@ -202,15 +202,30 @@ module _ (s : List ℕ) (spans : List Span) (count start i most : ℕ) (going : 
         texts = λ j m'. sym (get_or-map (span_text s) (set spans count span) j empty_span) ∙ field_at_lem l m j;
       })
 
-pub few_fields : (kind : Kind) (row : Row) → row ≡ row_of kind → row.count ≤ 11
-unfolding row_of
-few_fields kind row e = omega (arith, ap (λ (r : Row). r.count) e, count_most kind)
+pub few_fields : (kind : Kind) (row : Row) → IsRow kind row → row.count ≤ 11
+few_fields kind row e = omega (arith, e.count, count_most kind)
 
-pub counted : (kind : Kind) (row : Row) → row ≡ row_of kind → row.count ≡ field_count kind
-unfolding row_of
-counted kind row e = ap (λ (r : Row). r.count) e
+pub counted : (kind : Kind) (row : Row) → IsRow kind row → row.count ≡ field_count kind
+counted kind row e = e.count
 
 pub ruleset split_laws = (rules, begin, colon, other, full, end_full, end_few, end_fields, few_fields, counted)
+
+-- what the splitter's answer says
+pub not_few : (n : ℕ) (fields : List (List ℕ)) → None ≡ if_few n fields → n < length fields
+unfolding if_few pick
+not_few n fields e = by (leb (length fields) n) refl e
+  where
+    by : (t : Bool) → leb (length fields) n ≡ t → None ≡ pick t (Some fields) None → n < length fields
+    by true a q = absurd (let z : ◌≡◌ {A = ℕ} 0 1 = cc in omega arith)
+    by false a q = leb-false (length fields) n a
+
+pub are_few : (n : ℕ) (fields found : List (List ℕ)) → Some found ≡ if_few n fields → (length fields ≤ n) × (fields ≡ found)
+unfolding if_few pick
+are_few n fields found e = by (leb (length fields) n) refl e
+  where
+    by : (t : Bool) → leb (length fields) n ≡ t → Some found ≡ pick t (Some fields) None → (length fields ≤ n) × (fields ≡ found)
+    by true a q = (leb-true (length fields) n a, cc)
+    by false a q = absurd (let z : ◌≡◌ {A = ℕ} 0 1 = cc in omega arith)
 
 -- ---- a field's text
 
