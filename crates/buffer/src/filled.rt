@@ -1,5 +1,6 @@
 // A buffer of fixed size, of which the front is filled.
-ghost use Rattle.std.specs.Prelude.{◌≡◌, ◌≤◌, length, take};
+ghost use Rattle.std.specs.Prelude.{◌≡◌, ℕ, List, ◌≤◌, length, take};
+ghost use Rattle.std.specs.Borrow.{MutBor};
 
 use std::marker::Model;
 
@@ -27,6 +28,17 @@ impl<const N: usize> Filled<N> {
         ensures { result ≡ take len bytes.entry }
     {
         Filled { bytes, len }
+    }
+
+    // What fill puts at the front of N bytes; it answers how many.
+    pub fn by<F: FnOnce(&mut [u8]) -> usize>(fill: F) -> Self
+        requires callable { (room : MutBor (List ℕ)) → length room.now ≡ N → F.pre fill room }
+        requires within { (room full : MutBor (List ℕ)) (len : ℕ) → length room.now ≡ N → F.post fill room len full → len ≤ N }
+        ensures { (x : List ℕ) → ((room full : MutBor (List ℕ)) (len : ℕ) → length room.now ≡ N → F.post fill room len full → take len full.now ≡ x) → result ≡ x }
+    {
+        let mut bytes = [0u8; N];
+        let len = fill(&mut bytes);
+        Filled::new(bytes, len)
     }
 
     pub fn as_slice(&self) -> &[u8]
