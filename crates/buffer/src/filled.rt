@@ -1,6 +1,7 @@
 // A buffer of fixed size, of which the front is filled.
 ghost use Rattle.std.specs.Prelude.{◌≡◌, ℕ, List, ◌≤◌, length, take};
 ghost use Rattle.std.specs.Borrow.{MutBor};
+ghost use Rattle.buffer.specs.Filling.{EachFilling};
 
 use std::marker::Model;
 
@@ -33,8 +34,8 @@ impl<const N: usize> Filled<N> {
     // What fill puts at the front of N bytes; it answers how many.
     pub fn by<F: FnOnce(&mut [u8]) -> usize>(fill: F) -> Self
         requires callable { (room : MutBor (List ℕ)) → length room.now ≡ N → F.pre fill room }
-        requires within { (room full : MutBor (List ℕ)) (len : ℕ) → length room.now ≡ N → F.post fill room len full → len ≤ N }
-        ensures { (x : List ℕ) → ((room full : MutBor (List ℕ)) (len : ℕ) → length room.now ≡ N → F.post fill room len full → take len full.now ≡ x) → result ≡ x }
+        requires within { EachFilling N (F.post fill) (λ full len. len ≤ N) }
+        ensures { (x : List ℕ) → EachFilling N (F.post fill) (λ full len. take len full ≡ x) → result ≡ x }
     {
         let mut bytes = [0u8; N];
         let len = fill(&mut bytes);
