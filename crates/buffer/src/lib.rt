@@ -2,4 +2,5 @@
 
 #![tactic(auto)]
 
+pub mod filled;
 pub mod put;

@@ -1,11 +1,11 @@
 // The name that x gives.
-ghost use Rattle.std.specs.Prelude.{◌++◌, ◌≤◌, ◌+◌, length};
+ghost use Rattle.std.specs.Prelude.{◌≡◌, ◌++◌, ◌≤◌, ◌+◌, length};
 ghost use Rattle.rules.specs.Names.{label};
 ghost use Rattle.buffer.specs.Put.{IsPut};
 ghost use Rattle.rules.specs.Records.{host_name};
-ghost use Rattle.names.specs.Held.{IsName};
 ghost use Rattle.given.specs.Given.{HostGood};
 
+use buffer::filled::Filled;
 use buffer::put::put_bytes;
 use names::names::{Name, read_name};
 use pieces::pieces::has_byte;
@@ -41,12 +41,12 @@ fn put_joined(out: &mut [u8], x: &[u8], middle: &[u8], owner: &[u8]) -> usize
 // The name that x gives: x itself if it has a dot.
 pub fn read_host(owner: &[u8], x: &[u8], middle: &[u8]) -> Name
     requires { HostGood owner.now x.now middle.now }
-    ensures { IsName (host_name middle.now owner.now x.now) result }
+    ensures { result ≡ host_name middle.now owner.now x.now }
 {
     if has_byte(x, 46) {
         return read_name(x);
     }
     let mut bytes = [0u8; 255];
     let len = put_joined(&mut bytes, x, middle, owner);
-    Name { bytes, len }
+    Filled::new(bytes, len)
 }

@@ -1,26 +1,22 @@
 // Names that are put together from fields, and the fault of one that is too long.
 ghost use Rattle.std.specs.Prelude.{◌≡◌, ◌≤◌, length};
-ghost use Rattle.rules.specs.Lists.{split_on};
+ghost use Rattle.rules.specs.Kinds.{field_at};
 ghost use Rattle.rules.specs.Names.{wire_of};
 ghost use Rattle.rules.specs.Records.{joined_names};
 ghost use Rattle.rules.specs.Answers.{joined_fault};
-ghost use Rattle.splits.specs.Splits.{FieldsOf};
 ghost use Rattle.joined.specs.Joined.{middle_size, contact_size, host_size, if_short};
 
-use judged_names::judged::{NameJudged, judge_name};
+use judged_names::judged::judge_name;
 use pieces::pieces::has_byte;
 use rules::faults::{Fault, FieldKind, LineFault};
 use rules::kinds::Kind;
-use splits::splits::{Span, field};
+use splits::splits::Fields;
 
 // The size of a name on the wire, 0 if the text is none.
 fn name_size(text: &[u8]) -> usize
     ensures { (result ≡ length (wire_of text.now)) × (result ≤ 255) }
 {
-    match judge_name(text) {
-        NameJudged::Named(size) => size,
-        NameJudged::Misnamed(_, _) => 0,
-    }
+    judge_name(text).unwrap_or(0)
 }
 
 // The size of the label that stands between x and the fqdn, 0 for a kind that puts no names together.
@@ -28,19 +24,9 @@ fn middle_size(kind: Kind) -> usize
     ensures { (result ≡ middle_size kind) × (result ≤ 4) }
 {
     match kind {
-        Kind::Location => 0,
-        Kind::Zone => 3,
-        Kind::Delegation => 3,
-        Kind::Host => 0,
-        Kind::Alias => 0,
-        Kind::Mail => 3,
+        Kind::Zone | Kind::Delegation | Kind::Mail => 3,
         Kind::Service => 4,
-        Kind::Text => 0,
-        Kind::Pointer => 0,
-        Kind::Canonical => 0,
-        Kind::Authority => 0,
-        Kind::Generic => 0,
-        Kind::Unknown => 0,
+        _ => 0,
     }
 }
 
@@ -48,21 +34,7 @@ fn middle_size(kind: Kind) -> usize
 fn contact_size(kind: Kind) -> usize
     ensures { (result ≡ contact_size kind) × (result ≤ 11) }
 {
-    match kind {
-        Kind::Location => 0,
-        Kind::Zone => 11,
-        Kind::Delegation => 0,
-        Kind::Host => 0,
-        Kind::Alias => 0,
-        Kind::Mail => 0,
-        Kind::Service => 0,
-        Kind::Text => 0,
-        Kind::Pointer => 0,
-        Kind::Canonical => 0,
-        Kind::Authority => 0,
-        Kind::Generic => 0,
-        Kind::Unknown => 0,
-    }
+    if kind == Kind::Zone { 11 } else { 0 }
 }
 
 // The size of the name that x gives: x itself if it has a dot, else the label x, the one in the middle and the owner.
@@ -84,22 +56,18 @@ fn host_size(x: &[u8], middle: usize, owner: usize) -> usize
 fn if_short(size: usize) -> LineFault
     ensures { result ≡ if_short size }
 {
-    if size <= 255 {
-        return LineFault {
-            fault: Fault::Done,
-            field: 0,
-        };
-    }
-    LineFault {
-        fault: Fault::Malformed(FieldKind::Name),
-        field: 0,
-    }
+    let fault = if size <= 255 {
+        Fault::Done
+    } else {
+        Fault::Malformed(FieldKind::Name)
+    };
+    LineFault { fault, field: 0 }
 }
 
 // The host's name, and then the contact's.
-pub fn joined_fault(rest: &[u8], spans: [Span; 11], kind: Kind) -> LineFault
-    requires { FieldsOf rest.now spans × (length rest.now ≤ 1024) }
-    ensures { result ≡ joined_fault (joined_names kind (split_on 58 rest.now)) }
+pub fn joined_fault(fields: &Fields, kind: Kind) -> LineFault
+    requires { length (field_at fields.now 2) ≤ 1024 }
+    ensures { result ≡ joined_fault (joined_names kind fields.now) }
 {
     let middle = middle_size(kind);
     if middle == 0 {
@@ -108,8 +76,8 @@ pub fn joined_fault(rest: &[u8], spans: [Span; 11], kind: Kind) -> LineFault
             field: 0,
         };
     }
-    let owner = name_size(field(rest, spans, 0));
-    let host = host_size(field(rest, spans, 2), middle, owner);
+    let owner = name_size(fields.field(0));
+    let host = host_size(fields.field(2), middle, owner);
     if 255 < host {
         return if_short(host);
     }

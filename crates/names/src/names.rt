@@ -3,14 +3,11 @@ ghost use Rattle.std.specs.Prelude.{◌≡◌, true, ◌≤◌, length};
 ghost use Rattle.rules.specs.Names.{name_of, wire_of};
 ghost use Rattle.buffer.specs.Put.{IsPut};
 ghost use Rattle.names.specs.Views.{is_named};
-ghost use Rattle.names.specs.Held.{IsName};
 
-// The first len bytes are a name on the wire.
-#[derive(Clone, Copy)]
-pub struct Name {
-    pub bytes: [u8; 255],
-    pub len: usize,
-}
+use buffer::filled::Filled;
+
+// A name on the wire, held by value: in a contract it is the list of its bytes.
+pub type Name = Filled<255>;
 
 // The name on the wire, at the front of out. A label's length is stored when the label closes: until then its place is kept free.
 fn put_name(out: &mut [u8], text: &[u8]) -> usize
@@ -49,9 +46,9 @@ fn put_name(out: &mut [u8], text: &[u8]) -> usize
 
 pub fn read_name(text: &[u8]) -> Name
     requires { is_named (name_of text.now) ≡ true }
-    ensures { IsName (wire_of text.now) result }
+    ensures { result ≡ wire_of text.now }
 {
     let mut bytes = [0u8; 255];
     let len = put_name(&mut bytes, text);
-    Name { bytes, len }
+    Filled::new(bytes, len)
 }

@@ -3,8 +3,8 @@ ghost use Rattle.std.specs.Prelude.{◌≡◌, map, reverse, ◌+◌, ◌*◌, �
 ghost use Rattle.rules.specs.Lists.{pick, join_all};
 ghost use Rattle.rules.specs.Records.{decimal_label, hex_digit, nibble_labels, in_addr_arpa, ip6_arpa, reverse_name};
 ghost use Rattle.buffer.specs.Put.{IsPut};
-ghost use Rattle.names.specs.Held.{IsName};
 
+use buffer::filled::Filled;
 use buffer::put::put_bytes;
 use names::names::Name;
 
@@ -95,9 +95,9 @@ fn put_reverse_name(out: &mut [u8], address: &[u8]) -> usize
 
 pub fn read_reverse(address: &[u8]) -> Name
     requires { length address.now ≤ 16 }
-    ensures { IsName (reverse_name address.now) result }
+    ensures { result ≡ reverse_name address.now }
 {
     let mut bytes = [0u8; 255];
     let len = put_reverse_name(&mut bytes, address);
-    Name { bytes, len }
+    Filled::new(bytes, len)
 }

@@ -1,7 +1,7 @@
 // What compiling answers; specs/Answers.antt has the numbers.
 
 // What a field that is refused was read as.
-#[derive(Clone, Copy)]
+#[derive(Clone, Copy, Debug, PartialEq, Eq)]
 pub enum FieldKind {
     Name,
     // an address or a prefix
@@ -13,7 +13,7 @@ pub enum FieldKind {
 }
 
 // Why compiling refuses, or that it is done.
-#[derive(Clone, Copy)]
+#[derive(Clone, Copy, Debug, PartialEq, Eq)]
 pub enum Fault {
     Done,
     SourceTooLong,
@@ -27,7 +27,7 @@ pub enum Fault {
 }
 
 // The refusal and its place, together: line and field from 1, or 0 for none, and a count of bytes.
-#[derive(Clone, Copy)]
+#[derive(Clone, Copy, Debug, PartialEq, Eq)]
 pub struct Answer {
     pub fault: Fault,
     pub line: usize,
@@ -36,14 +36,14 @@ pub struct Answer {
 }
 
 // The first fault of a line, with its field.
-#[derive(Clone, Copy)]
+#[derive(Clone, Copy, Debug, PartialEq, Eq)]
 pub struct LineFault {
     pub fault: Fault,
     pub field: usize,
 }
 
 // The first fault of a name's text, from the left.
-#[derive(Clone, Copy)]
+#[derive(Clone, Copy, Debug, PartialEq, Eq)]
 pub enum NameFault {
     EmptyLabel,
     LabelTooLong,

@@ -1,7 +1,7 @@
 // The kinds of line and the meanings of fields. specs/Kinds.antt has the table.
 
 // The kind of a line, by its first byte: % . & = + @ S ' ^ C Z : and any other.
-#[derive(Clone, Copy)]
+#[derive(Clone, Copy, Debug, PartialEq, Eq)]
 pub enum Kind {
     Location,
     Zone,
@@ -19,7 +19,7 @@ pub enum Kind {
 }
 
 // What a field is read as.
-#[derive(Clone, Copy)]
+#[derive(Clone, Copy, Debug, PartialEq, Eq)]
 pub enum Meaning {
     // fqdn: a name
     Owner,

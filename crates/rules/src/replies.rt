@@ -2,7 +2,7 @@
 use crate::quantities::Ttl;
 
 // Why asking refuses.
-#[derive(Clone, Copy)]
+#[derive(Clone, Copy, Debug, PartialEq, Eq)]
 pub enum AskFault {
     Name,
     Moment,
@@ -10,7 +10,7 @@ pub enum AskFault {
     Records,
 }
 
-#[derive(Clone, Copy)]
+#[derive(Clone, Copy, Debug, PartialEq, Eq)]
 pub enum Reply {
     // A record of the answer: its data stand at place, counted from 0, in the compiled bytes.
     Found {
@@ -24,7 +24,7 @@ pub enum Reply {
 }
 
 // The outcome of a question: whether the name is ours, and what is known of it.
-#[derive(Clone, Copy)]
+#[derive(Clone, Copy, Debug, PartialEq, Eq)]
 pub enum Outcome {
     // none: asking refused
     Refused,
@@ -38,7 +38,7 @@ pub enum Outcome {
 }
 
 // What asking says of one ordinal. The outcome is the question's, the same at every ordinal.
-#[derive(Clone, Copy)]
+#[derive(Clone, Copy, Debug, PartialEq, Eq)]
 pub struct Response {
     pub outcome: Outcome,
     pub reply: Reply,
