@@ -15,7 +15,7 @@ use Rattle.rules.specs.Kinds.{field_count, field_at}
 use Rattle.rules.proofs.Lists.{All, nil, cons}
 use Rattle.wire.proofs.Steps.{left_at, take_put}
 use Rattle.rules.specs.declared.kinds.Kind.{Kind}
-use Rattle.rows.specs.Rows.{row_of}
+use Rattle.rows.specs.Rows.{IsRow}
 use Rattle.rows.specs.declared.rows.Row.{Row}
 use Rattle.rows.proofs.Table.{count_most}
 use Rattle.splits.specs.declared.splits.Span.{Span}
@@ -202,13 +202,11 @@ module _ (s : List ℕ) (spans : List Span) (count start i most : ℕ) (going : 
         texts = λ j m'. sym (get_or-map (span_text s) (set spans count span) j empty_span) ∙ field_at_lem l m j;
       })
 
-pub few_fields : (kind : Kind) (row : Row) → row ≡ row_of kind → row.count ≤ 11
-unfolding row_of
-few_fields kind row e = omega (arith, ap (λ (r : Row). r.count) e, count_most kind)
+pub few_fields : (kind : Kind) (row : Row) → IsRow kind row → row.count ≤ 11
+few_fields kind row e = omega (arith, e.count, count_most kind)
 
-pub counted : (kind : Kind) (row : Row) → row ≡ row_of kind → row.count ≡ field_count kind
-unfolding row_of
-counted kind row e = ap (λ (r : Row). r.count) e
+pub counted : (kind : Kind) (row : Row) → IsRow kind row → row.count ≡ field_count kind
+counted kind row e = e.count
 
 pub ruleset split_laws = (rules, begin, colon, other, full, end_full, end_few, end_fields, few_fields, counted)
 

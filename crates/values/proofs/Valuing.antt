@@ -19,7 +19,7 @@ use Rattle.times.specs.Views.{time_read}
 use Rattle.codes.specs.Views.{lo_read}
 use Rattle.times.specs.declared.times.TimeRead.{TimeRead}
 use Rattle.codes.specs.declared.codes.LoRead.{LoRead}
-use Rattle.rows.specs.Rows.{row_of}
+use Rattle.rows.specs.Rows.{IsRow}
 use Rattle.rows.specs.declared.rows.Row.{Row}
 use Rattle.rows.proofs.Table.{count_most}
 
@@ -95,14 +95,12 @@ default_most Kind.Authority = omega arith
 default_most Kind.Generic = omega arith
 default_most Kind.Unknown = omega arith
 
-module _ (kind : Kind) (row : Row) (e : row ≡ row_of kind) where
+module _ (kind : Kind) (row : Row) (e : IsRow kind row) where
   count_is : row.count ≡ field_count kind
-  unfolding row_of
-  count_is = ap (λ (r : Row). r.count) e
+  count_is = e.count
 
   ttl_is : row.ttl ≡ default_ttl kind
-  unfolding row_of
-  ttl_is = ap (λ (r : Row). r.ttl) e
+  ttl_is = e.ttl
 
   pub default_fits : row.ttl ≤ 2147483647
   default_fits = omega (arith, ttl_is, default_most kind)
