@@ -21,12 +21,11 @@ use Rattle.rules.specs.declared.faults.FieldKind.{FieldKind}
 use Rattle.rules.specs.declared.faults.LineFault.{LineFault}
 use Rattle.rules.specs.declared.kinds.Kind.{Kind}
 use Rattle.rules.specs.declared.kinds.Meaning.{Meaning}
-use Rattle.rules.proofs.Lists.{split_short, all_fields}
 use Rattle.rows.specs.Rows.{IsRow}
 use Rattle.rows.specs.declared.rows.Row.{Row}
 use Rattle.rows.proofs.Table.{count_most}
 use Rattle.splits.specs.Few.{if_few}
-use Rattle.splits.proofs.Splitting.{not_few, are_few}
+use Rattle.splits.proofs.Splitting.{not_few, are_few, field_short}
 use Rattle.kinds.specs.Strips.{IsStripped}
 use Rattle.kinds.proofs.Stripping.{parted_line}
 
@@ -79,11 +78,6 @@ not_done Fault.NoRoom h = refl
 pub ruleset fields_laws = (rules, begin_fields, all_good, next_field, first_fault, not_done)
 
 -- ---- a kind
-
--- a field is no longer than the line
-pub field_short : (s : List ℕ) (i n : ℕ) → length s ≤ n → length (field_at (split_on 58 s) i) ≤ n
-unfolding field_at
-field_short s i n h = all_fields n i (split_short 58 n s h)
 
 module _ (s : List ℕ) (kind : Kind) (row : Row) (e : IsRow kind row) where
   pub row_most : length row.meanings.now ≤ 11

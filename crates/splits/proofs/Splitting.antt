@@ -12,7 +12,7 @@ use lib.Seq.{drop-drop, drop-set-lt, take-suc, get_or-drop, append_snoc, length-
 use Rattle.std.specs.Prelude.{Option, Some, None}
 use Rattle.rules.specs.Lists.{pick, onto_first, split_on}
 use Rattle.rules.specs.Kinds.{field_count, field_at}
-use Rattle.rules.proofs.Lists.{All, nil, cons}
+use Rattle.rules.proofs.Lists.{All, nil, cons, split_short, all_fields}
 use Rattle.wire.proofs.Steps.{left_at, take_put}
 use Rattle.rules.specs.declared.kinds.Kind.{Kind}
 use Rattle.rows.specs.Rows.{IsRow}
@@ -211,6 +211,10 @@ counted kind row e = e.count
 pub ruleset split_laws = (rules, begin, colon, other, full, end_full, end_few, end_fields, few_fields, counted)
 
 -- what the splitter's answer says
+pub few_there : (n : ℕ) (fields : List (List ℕ)) → length fields ≤ n → if_few n fields ≡ Some fields
+unfolding if_few pick
+few_there n fields h = rw (le-leb (length fields) n h)
+
 pub not_few : (n : ℕ) (fields : List (List ℕ)) → None ≡ if_few n fields → n < length fields
 unfolding if_few pick
 not_few n fields e = by (leb (length fields) n) refl e
@@ -228,6 +232,11 @@ are_few n fields found e = by (leb (length fields) n) refl e
     by false a q = absurd (let z : ◌≡◌ {A = ℕ} 0 1 = cc in omega arith)
 
 -- ---- a field's text
+
+-- a field is no longer than its line
+pub field_short : (s : List ℕ) (i n : ℕ) → length s ≤ n → length (field_at (split_on 58 s) i) ≤ n
+unfolding field_at
+field_short s i n h = all_fields n i (split_short 58 n s h)
 
 module _ (s : List ℕ) (spans : List Span) (i : ℕ) (f : FieldsOf s spans) where
   within : Inside (length s) (get_or spans i empty_span)
