@@ -77,7 +77,13 @@ fn print_question<P: Print>(out: &P, text: &[u8], ordinal: u64) -> Result<(), Er
 }
 
 // The record of this ordinal, and whether more may follow.
-fn print_response<P: Print>(out: &P, records: &[u8], text: &[u8], response: Response, ordinal: u64) -> Result<bool, Error>
+fn print_response<P: Print>(
+    out: &P,
+    records: &[u8],
+    text: &[u8],
+    response: Response,
+    ordinal: u64,
+) -> Result<bool, Error>
     requires { Inside records.now response.reply }
 {
     let Response { outcome, reply } = response;
@@ -87,7 +93,11 @@ fn print_response<P: Print>(out: &P, records: &[u8], text: &[u8], response: Resp
 }
 
 fn refuse_line(rt: &HostRuntime, line: Line) {
-    let Line { path, number, text: _ } = line;
+    let Line {
+        path,
+        number,
+        text: _,
+    } = line;
     let _ = rt.stderr().write_all(path);
     let _ = eprintln!(rt; ":{number}: not a question: MOMENT CLIENT TYPE NAME");
 }
