@@ -1,3 +1,2 @@
-pub mod Address
+pub mod Forms
 pub mod GroupsBytes
-pub mod HoldingAddress

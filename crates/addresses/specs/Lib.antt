@@ -1,2 +1,2 @@
+pub mod Address
 pub mod Addresses
-pub mod HeldAddress

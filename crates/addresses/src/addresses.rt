@@ -1,58 +1,41 @@
 // ip.
+ghost use Rattle.std.specs.Prelude.{◌≡◌, option_map};
 ghost use Rattle.rules.specs.Fields.{address_of};
-ghost use Rattle.addresses.specs.Addresses.{dotted_address, grouped_address, IsAddress};
+ghost use Rattle.addresses.specs.Addresses.{dotted_address, grouped_address};
+ghost use Rattle.addresses.specs.Address.{address_bytes};
 
+use crate::address::Address;
 use crate::groups_bytes::address_bytes;
 use groups::groups::groups;
 use octets::octets::octets;
 use pieces::pieces::has_byte;
 
-// The first len bytes: 4, 16, or none where the text is no address.
-#[derive(Clone, Copy)]
-pub struct AddressRead {
-    pub bytes: [u8; 16],
-    pub len: usize,
-}
-
 // Four numbers joined by dots.
-fn dotted_address(text: &[u8]) -> AddressRead
-    ensures { IsAddress (dotted_address text.now) result }
+fn dotted_address(text: &[u8]) -> Option<Address>
+    ensures { option_map address_bytes result ≡ dotted_address text.now }
 {
-    let mut bytes = [0u8; 16];
-    let read = octets(text);
-    let count = read.count;
-    let first = read.bytes;
-    if count == 4 {
-        bytes[0] = first[0];
-        bytes[1] = first[1];
-        bytes[2] = first[2];
-        bytes[3] = first[3];
-        return AddressRead { bytes, len: 4 };
+    let read = octets(text)?;
+    match *read.as_slice() {
+        [a, b, c, d] => Some(Address::V4([a, b, c, d])),
+        _ => None,
     }
-    AddressRead { bytes, len: 0 }
 }
 
 // Eight groups joined by underscores.
-fn grouped_address(text: &[u8]) -> AddressRead
-    ensures { IsAddress (grouped_address text.now) result }
+fn grouped_address(text: &[u8]) -> Option<Address>
+    ensures { option_map address_bytes result ≡ grouped_address text.now }
 {
-    let read = groups(text);
-    let good = read.good;
-    let eight = read.groups;
-    if good {
-        let bytes = address_bytes(eight);
-        return AddressRead { bytes, len: 16 };
-    }
-    let bytes = [0u8; 16];
-    AddressRead { bytes, len: 0 }
+    let eight = groups(text)?;
+    Some(Address::V6(address_bytes(eight)))
 }
 
 // An underscore makes the difference.
-pub fn address(text: &[u8]) -> AddressRead
-    ensures { IsAddress (address_of text.now) result }
+pub fn address(text: &[u8]) -> Option<Address>
+    ensures { option_map address_bytes result ≡ address_of text.now }
 {
-    if has_byte(text, 95) {
-        return grouped_address(text);
+    if has_byte(text, b'_') {
+        grouped_address(text)
+    } else {
+        dotted_address(text)
     }
-    dotted_address(text)
 }

@@ -7,12 +7,8 @@ pub(crate) fn address_bytes(groups: [u16; 8]) -> [u8; 16]
     ensures { result ≡ groups_bytes groups }
 {
     let mut bytes = [0u8; 16];
-    let mut i: usize = 0;
-    while i < 8 {
-        let g = groups[i];
-        bytes[2 * i] = (g / 256 % 256) as u8;
-        bytes[2 * i + 1] = (g % 256) as u8;
-        i += 1;
+    for (i, group) in groups.iter().enumerate() {
+        bytes[2 * i..2 * i + 2].copy_from_slice(&group.to_be_bytes());
     }
     bytes
 }

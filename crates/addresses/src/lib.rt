@@ -2,5 +2,6 @@
 
 #![tactic(auto)]
 
+pub mod address;
 pub mod addresses;
 mod groups_bytes;

@@ -1,7 +1,6 @@
 // Writers: bytes put at the front of the buffer that is lent; what is behind them stays. Each answers how many it put.
 ghost use Rattle.std.specs.Prelude.{◌≡◌, map, ◌≤◌, length};
 ghost use Rattle.rules.specs.Lists.{lower};
-ghost use Rattle.letters.specs.Letters.{Lowers};
 ghost use Rattle.buffer.specs.Put.{IsPut};
 
 use letters::letters::{letter_table, lowered_by};
@@ -12,26 +11,7 @@ pub fn put_bytes(out: &mut [u8], source: &[u8]) -> usize
     ensures value { result ≡ length source.now }
 {
     let n = source.len();
-    let mut i: usize = 0;
-    while i < n {
-        out[i] = source[i];
-        i += 1;
-    }
-    n
-}
-
-fn put_by(out: &mut [u8], source: &[u8], table: &[u8]) -> usize
-    requires source_in_bounds { length source.now ≤ length out.old }
-    requires lowers { Lowers table.now }
-    ensures put { IsPut (map lower source.now) out.old out.new result }
-    ensures value { result ≡ length source.now }
-{
-    let n = source.len();
-    let mut i: usize = 0;
-    while i < n {
-        out[i] = lowered_by(table, source[i]);
-        i += 1;
-    }
+    out[..n].copy_from_slice(source);
     n
 }
 
@@ -41,5 +21,9 @@ pub fn put_lowered(out: &mut [u8], source: &[u8]) -> usize
     ensures value { result ≡ length source.now }
 {
     let table = letter_table();
-    put_by(out, source, &table)
+    let n = put_bytes(out, source);
+    for b in out[..n].iter_mut() {
+        *b = lowered_by(&table, *b);
+    }
+    n
 }

@@ -2,8 +2,8 @@
 ghost use Rattle.std.specs.Prelude.{◌≡◌, ◌+◌, ◌≤◌, length};
 ghost use Rattle.rules.specs.Records.{contact_of};
 ghost use Rattle.buffer.specs.Put.{IsPut};
-ghost use Rattle.names.specs.Held.{IsName};
 
+use buffer::filled::Filled;
 use buffer::put::put_bytes;
 use names::names::Name;
 
@@ -15,16 +15,15 @@ fn put_contact(out: &mut [u8], owner: &[u8]) -> usize
     ensures put { IsPut (contact_of owner.now) out.old out.new result }
     ensures value { result ≡ 11 + length owner.now }
 {
-    let hostmaster = HOSTMASTER;
-    let used = put_bytes(out, &hostmaster);
+    let used = put_bytes(out, &HOSTMASTER);
     used + put_bytes(&mut out[used..], owner)
 }
 
 pub fn read_contact(owner: &[u8]) -> Name
     requires { length (contact_of owner.now) ≤ 255 }
-    ensures { IsName (contact_of owner.now) result }
+    ensures { result ≡ contact_of owner.now }
 {
     let mut bytes = [0u8; 255];
     let len = put_contact(&mut bytes, owner);
-    Name { bytes, len }
+    Filled::new(bytes, len)
 }

@@ -1,1 +1,1 @@
-pub mod HexDigit
+pub mod Digit

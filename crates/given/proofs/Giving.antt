@@ -11,12 +11,9 @@ use Rattle.rules.specs.Lists.{pick, has}
 use Rattle.rules.specs.Names.{label, name_of, wire_of}
 use Rattle.rules.specs.Records.{host_name}
 use Rattle.buffer.specs.Put.{IsPut}
-use Rattle.buffer.proofs.Puts.{behind_length, within, then}
+use Rattle.buffer.proofs.Puts.{behind_length, within, then, filled}
 use Rattle.names.specs.Views.{is_named}
-use Rattle.names.specs.Held.{IsName}
-use Rattle.names.specs.declared.names.Name.{Name}
 use Rattle.given.specs.Given.{HostGood}
-use Rattle.names.proofs.Holding.{held_name_lem}
 
 -- ---- the name that x gives
 
@@ -45,7 +42,7 @@ module _ (owner x middle : List ℕ) (g : HostGood owner x middle) (dot : Bool) 
   pub x_named : is_named (name_of x) ≡ true
   x_named = g.named
 
-  pub x_itself : (r : Name) → dot ≡ true → IsName (wire_of x) r → IsName (host_name middle owner x) r
+  pub x_itself : (r : List ℕ) → dot ≡ true → r ≡ wire_of x → r ≡ host_name middle owner x
   unfolding host_name pick
   x_itself r t n = rw (← e, t) n
 
@@ -59,7 +56,7 @@ module _ (owner x middle : List ℕ) (g : HostGood owner x middle) (dot : Bool) 
   joined_fits n t h =
       omega (arith, g.short, ap length (host_joined owner x middle (sym e ∙ t)), length-append (label x ++ label middle) owner, length-append (label x) (label middle))
 
-  pub held_host : (d f : List ℕ) (r : ℕ) → dot ≡ false → IsPut (label x ++ label middle ++ owner) d f r → length d ≡ 255 → IsName (host_name middle owner x) (record { bytes = f; len = r })
-  held_host d f r t p h = rw (host_joined owner x middle (sym e ∙ t)) (held_name_lem _ d f r p h)
+  pub held_host : (d f held : List ℕ) (r : ℕ) → dot ≡ false → IsPut (label x ++ label middle ++ owner) d f r → held ≡ take r f → held ≡ host_name middle owner x
+  held_host d f held r t p h = rw (host_joined owner x middle (sym e ∙ t)) (filled _ d f held r p h)
 
 pub ruleset host_laws = (rules, x_named, x_itself, x_short, middle_short, joined_fits, held_host)

@@ -1,32 +1,14 @@
 // The name that x gives.
-ghost use Rattle.std.specs.Prelude.{◌++◌, ◌≤◌, ◌+◌, length};
+ghost use Rattle.std.specs.Prelude.{◌≡◌, ◌++◌, ◌≤◌, ◌+◌, length};
 ghost use Rattle.rules.specs.Names.{label};
 ghost use Rattle.buffer.specs.Put.{IsPut};
 ghost use Rattle.rules.specs.Records.{host_name};
-ghost use Rattle.names.specs.Held.{IsName};
 ghost use Rattle.given.specs.Given.{HostGood};
 
+use buffer::filled::Filled;
 use buffer::put::put_bytes;
-use names::names::{Name, read_name};
+use names::names::{Name, put_label, read_name};
 use pieces::pieces::has_byte;
-
-// The text as one label, at the front of out; an empty text is no label.
-fn put_label(out: &mut [u8], text: &[u8]) -> usize
-    requires { (length text.now ≤ 63) × (length (label text.now) ≤ length out.old) }
-    ensures { IsPut (label text.now) out.old out.new result }
-{
-    let n = text.len();
-    if n == 0 {
-        return 0;
-    }
-    let mut i: usize = 0;
-    while i < n {
-        out[i + 1] = text[i];
-        i += 1;
-    }
-    out[0] = n as u8;
-    n + 1
-}
 
 // A label, a second one and a name, one behind the other.
 fn put_joined(out: &mut [u8], x: &[u8], middle: &[u8], owner: &[u8]) -> usize
@@ -41,12 +23,12 @@ fn put_joined(out: &mut [u8], x: &[u8], middle: &[u8], owner: &[u8]) -> usize
 // The name that x gives: x itself if it has a dot.
 pub fn read_host(owner: &[u8], x: &[u8], middle: &[u8]) -> Name
     requires { HostGood owner.now x.now middle.now }
-    ensures { IsName (host_name middle.now owner.now x.now) result }
+    ensures { result ≡ host_name middle.now owner.now x.now }
 {
-    if has_byte(x, 46) {
+    if has_byte(x, b'.') {
         return read_name(x);
     }
     let mut bytes = [0u8; 255];
     let len = put_joined(&mut bytes, x, middle, owner);
-    Name { bytes, len }
+    Filled::new(bytes, len)
 }

@@ -7,6 +7,8 @@ use native.Mathlib.Omega.{arith}
 use borrow.Author.Rules.{rules}
 use borrow.Author.Tests.{le-leb, lt-leb}
 use lib.Dec.{leb}
+use Rattle.std.specs.Prelude.{Result}
+use Rattle.std.specs.Result.{result_unwrap_or}
 use lib.ListN.{length, length-append}
 use Rattle.rules.specs.Lists.{pick, all, has, split_on}
 use Rattle.rules.specs.Kinds.{field_at}
@@ -16,41 +18,26 @@ use Rattle.rules.specs.Answers.{no_fault, joined_fault}
 use Rattle.rules.specs.declared.faults.Fault.{Fault}
 use Rattle.rules.specs.declared.faults.FieldKind.{FieldKind}
 use Rattle.rules.specs.declared.faults.LineFault.{LineFault}
-use Rattle.rules.specs.declared.faults.NameFault.{NameFault}
 use Rattle.rules.specs.declared.kinds.Kind.{Kind}
 use Rattle.rules.proofs.Names.{Wire, OnName, name_ok, short_of}
 use Rattle.rules.proofs.Lists.{split_short, all_fields}
 use Rattle.judged_names.specs.Views.{judged_of}
-use Rattle.judged_names.specs.declared.judged.NameJudged.{NameJudged}
+use Rattle.judged_names.specs.declared.judged.Misnamed.{Misnamed}
 use Rattle.joined.specs.Joined.{middle_size, contact_size, host_size, if_short}
 
 -- ---- the size of a name
 
-sized : (n : ℕ) (m : NameRead) → OnName Wire m → NameJudged.Named n ≡ judged_of m → (n ≡ length (wire_in m)) × (n ≤ 255)
+judged_wire : (m : NameRead) → OnName Wire m → (result_unwrap_or (judged_of m) 0 ≡ length (wire_in m)) × (length (wire_in m) ≤ 255)
 unfolding wire_in
-sized n (named w) h p =
-    let z : n ≡ length w = cc in
-    (z, omega (arith, short_of w h))
-sized n (misnamed f q) h p = absurd (let z : ◌≡◌ {A = ℕ} 0 1 = cc in omega arith)
+judged_wire (named w) h = (refl, short_of w h)
+judged_wire (misnamed f p) h = (refl, omega arith)
 
-unnamed : (f : NameFault) (p : ℕ) (m : NameRead) → NameJudged.Misnamed f p ≡ judged_of m → 0 ≡ length (wire_in m)
-unfolding wire_in
-unnamed f p (named w) q = absurd (let z : ◌≡◌ {A = ℕ} 0 1 = cc in omega arith)
-unnamed f p (misnamed g r) q = refl
-
-module _ (t : List ℕ) (r : NameJudged) (e : r ≡ judged_of (name_of t)) where
-  pub size_is : (n : ℕ) → r ≡ NameJudged.Named n → n ≡ length (wire_of t)
-  unfolding wire_of
-  size_is n q = (sized n (name_of t) (name_ok t) (sym q ∙ e)).0
-
-  pub size_most : (n : ℕ) → r ≡ NameJudged.Named n → n ≤ 255
-  size_most n q = (sized n (name_of t) (name_ok t) (sym q ∙ e)).1
-
-  pub no_size : (f : NameFault) (p : ℕ) → r ≡ NameJudged.Misnamed f p → 0 ≡ length (wire_of t)
-  unfolding wire_of
-  no_size f p q = unnamed f p (name_of t) (sym q ∙ e)
-
-pub ruleset size_laws = (rules, size_is, size_most, no_size)
+pub judged_size : (t : List ℕ) (j : Result ℕ Misnamed) (n : ℕ) → j ≡ judged_of (name_of t) → n ≡ result_unwrap_or j 0 → (n ≡ length (wire_of t)) × (n ≤ 255)
+unfolding wire_of
+judged_size t j n e q =
+    let w = judged_wire (name_of t) (name_ok t) in
+    let u : n ≡ length (wire_in (name_of t)) = q ∙ rw e w.0 in
+    (u, rw u w.1)
 
 -- ---- the size of the name that x gives
 

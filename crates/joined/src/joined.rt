@@ -7,7 +7,7 @@ ghost use Rattle.rules.specs.Answers.{joined_fault};
 ghost use Rattle.splits.specs.Splits.{FieldsOf};
 ghost use Rattle.joined.specs.Joined.{middle_size, contact_size, host_size, if_short};
 
-use judged_names::judged::{NameJudged, judge_name};
+use judged_names::judged::judge_name;
 use pieces::pieces::has_byte;
 use rules::faults::{Fault, FieldKind, LineFault};
 use rules::kinds::Kind;
@@ -17,10 +17,7 @@ use splits::splits::{Span, field};
 fn name_size(text: &[u8]) -> usize
     ensures { (result ≡ length (wire_of text.now)) × (result ≤ 255) }
 {
-    match judge_name(text) {
-        NameJudged::Named(size) => size,
-        NameJudged::Misnamed(_, _) => 0,
-    }
+    judge_name(text).unwrap_or(0)
 }
 
 // The size of the label that stands between x and the fqdn, 0 for a kind that puts no names together.
@@ -28,19 +25,9 @@ fn middle_size(kind: Kind) -> usize
     ensures { (result ≡ middle_size kind) × (result ≤ 4) }
 {
     match kind {
-        Kind::Location => 0,
-        Kind::Zone => 3,
-        Kind::Delegation => 3,
-        Kind::Host => 0,
-        Kind::Alias => 0,
-        Kind::Mail => 3,
+        Kind::Zone | Kind::Delegation | Kind::Mail => 3,
         Kind::Service => 4,
-        Kind::Text => 0,
-        Kind::Pointer => 0,
-        Kind::Canonical => 0,
-        Kind::Authority => 0,
-        Kind::Generic => 0,
-        Kind::Unknown => 0,
+        _ => 0,
     }
 }
 
@@ -48,21 +35,7 @@ fn middle_size(kind: Kind) -> usize
 fn contact_size(kind: Kind) -> usize
     ensures { (result ≡ contact_size kind) × (result ≤ 11) }
 {
-    match kind {
-        Kind::Location => 0,
-        Kind::Zone => 11,
-        Kind::Delegation => 0,
-        Kind::Host => 0,
-        Kind::Alias => 0,
-        Kind::Mail => 0,
-        Kind::Service => 0,
-        Kind::Text => 0,
-        Kind::Pointer => 0,
-        Kind::Canonical => 0,
-        Kind::Authority => 0,
-        Kind::Generic => 0,
-        Kind::Unknown => 0,
-    }
+    if kind == Kind::Zone { 11 } else { 0 }
 }
 
 // The size of the name that x gives: x itself if it has a dot, else the label x, the one in the middle and the owner.
@@ -84,16 +57,12 @@ fn host_size(x: &[u8], middle: usize, owner: usize) -> usize
 fn if_short(size: usize) -> LineFault
     ensures { result ≡ if_short size }
 {
-    if size <= 255 {
-        return LineFault {
-            fault: Fault::Done,
-            field: 0,
-        };
-    }
-    LineFault {
-        fault: Fault::Malformed(FieldKind::Name),
-        field: 0,
-    }
+    let fault = if size <= 255 {
+        Fault::Done
+    } else {
+        Fault::Malformed(FieldKind::Name)
+    };
+    LineFault { fault, field: 0 }
 }
 
 // The host's name, and then the contact's.

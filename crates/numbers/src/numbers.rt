@@ -2,7 +2,8 @@
 ghost use Rattle.std.specs.Prelude.{◌≡◌};
 ghost use Rattle.rules.specs.Fields.{number_of};
 
-use wire::get::wide;
+use digits::decimal::Decimal;
+use digits::radix::value;
 
 // Ten digits need more than 32 bits.
 const MOST_DIGITS: usize = 10;
@@ -18,15 +19,6 @@ pub fn number(text: &[u8], limit: u64) -> Option<u64>
     if MOST_DIGITS < n {
         return None;
     }
-    let mut value: u64 = 0;
-    for &b in text {
-        if b < b'0' {
-            return None;
-        }
-        if b'9' < b {
-            return None;
-        }
-        value = value * 10 + wide(b - b'0');
-    }
+    let value = value::<Decimal>(text)?;
     if value <= limit { Some(value) } else { None }
 }

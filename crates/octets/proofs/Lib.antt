@@ -1,3 +1,1 @@
-pub mod Dotted
 pub mod Octet
-pub mod Taken

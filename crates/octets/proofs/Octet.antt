@@ -1,21 +1,13 @@
 -- The laws of one number of an IPv4 address: a number of at most three digits and 255, without a zero in front.
-use mathlib.Core.Path.{◌≡◌, refl, ◌∙◌, sym}
-use mathlib.Core.Bool.{Bool, true, false, not, ◌||◌, and-true, and-false}
-use mathlib.Core.List.{List, [], ◌∷◌}
-use Rattle.std.specs.Prelude.{Some, None}
-use Prim.Native.Nat.{ℕ, ◌<◌, ◌≤◌}
-use native.Mathlib.Omega.{arith}
-use borrow.Author.Rules.{rules}
+use Rattle.std.proofs.Common.{◌≡◌, refl, ap, ◌∙◌, sym, ℕ, ◌<◌, ◌≤◌, List, [], ◌∷◌, ◌++◌, length, get_or, map, Option, Some, None, option_map, arith, eqb, leb, Bool, true, false, ◌&&◌, ◌||◌, not, rules, Fits, w8, take}
+use mathlib.Core.Bool.{and-true, and-false}
 use borrow.Author.Tests.{le-leb, lt-leb, ne_eqb, not-true, not-false}
-use lib.Dec.{eqb}
-use lib.ListN.{length, get_or}
-use Rattle.rules.specs.Lists.{pick}
-use Rattle.rules.specs.Fields.{decimal_from, first_is_zero, octet, number_of}
-use Rattle.numbers.specs.Views.{number_read}
-use Rattle.octets.specs.Octets.{leading_zero, IsPiece}
-use Rattle.numbers.specs.declared.numbers.NumberRead.{NumberRead}
-use Rattle.numbers.proofs.Number.{within}
-use Rattle.octets.proofs.Taken.{not_good}
+use Rattle.rules.specs.Lists.{pick, join_all, split_on}
+use Rattle.rules.specs.Fields.{decimal_from, first_is_zero, octet, octet_byte, number_of}
+use Rattle.numbers.proofs.Number.{value_within}
+use Rattle.pieces.specs.Pieces.{read_all, read_in}
+use Rattle.pieces.proofs.Read.{address_read, none_read, some_read}
+use Rattle.octets.specs.Octets.{leading_zero, octet_of, octets_of}
 
 pub short : (t : List ℕ) → length t < 2 → false ≡ leading_zero t
 unfolding leading_zero first_is_zero
@@ -36,20 +28,45 @@ first (b ∷ c ∷ t) h = rw (ne_eqb (length (b ∷ c ∷ t)) 1 (λ e. omega ari
 pub ruleset zero_laws = (short, first, rules)
 
 module _ (t : List ℕ) where
-  pub long : 3 < length t → octet t ≡ false
-  unfolding octet
+  pub long : 3 < length t → None ≡ octet_of t
+  unfolding octet octet_of pick
   long h = rw (le-leb 1 (length t) (omega arith), lt-leb (length t) 3 h)
 
-  pub zero_ahead : (r : Bool) → r ≡ leading_zero t → r ≡ true → octet t ≡ false
-  unfolding octet leading_zero
+  pub zero_ahead : (r : Bool) → r ≡ leading_zero t → r ≡ true → None ≡ octet_of t
+  unfolding octet leading_zero octet_of pick
   zero_ahead r p q = rw (not-true (eqb (length t) 1 || not (first_is_zero t)) (sym p ∙ q), and-false)
 
   -- with these two tests passed it is a number up to 255
-  pub number_is : (r : Bool) (x : NumberRead) → r ≡ leading_zero t → r ≡ false → length t ≤ 3 → number_read x ≡ number_of 255 t → IsPiece octet (decimal_from 0) 255 t x
-  unfolding number_of octet leading_zero
-  number_is r x p q h e =
-      let n : number_of 255 t ≡ pick (octet t) (Some (decimal_from 0 t)) None =
-      rw (not-false (eqb (length t) 1 || not (first_is_zero t)) (sym p ∙ q), le-leb (length t) 3 h, le-leb (length t) 10 (omega arith), and-true, and-true) in
-      record { says = e ∙ n; fits = λ v w. within 255 t x v e w }
+  pub number_is : (r : Bool) → r ≡ leading_zero t → r ≡ false → length t ≤ 3 → number_of 255 t ≡ octet_of t
+  unfolding number_of octet leading_zero octet_of
+  number_is r p q h = rw (not-false (eqb (length t) 1 || not (first_is_zero t)) (sym p ∙ q), le-leb (length t) 3 h, le-leb (length t) 10 (omega arith), and-true, and-true)
 
-pub ruleset octet_laws = (long, zero_ahead, number_is, not_good, rules)
+  pub byte_fits : (v : ℕ) → number_of 255 t ≡ Some v → Fits w8 v
+  byte_fits v e = omega (arith, value_within 255 t v e)
+
+-- the pieces' numbers are the bytes
+one : ℕ → List ℕ
+one v = v ∷ []
+
+ones : (vs : List ℕ) → join_all (map one vs) ≡ vs
+unfolding join_all one
+ones [] = refl
+ones (v ∷ vs) = ap (λ (l : List ℕ). v ∷ l) (ones vs)
+
+same : (t : List ℕ) → octet_byte t ≡ one (decimal_from 0 t)
+unfolding octet_byte one
+same t = refl
+
+reads : (t : List ℕ) → octet_of t ≡ pick (octet t) (Some (decimal_from 0 t)) None
+unfolding octet_of
+reads t = refl
+
+all_ones : (r : Option (List ℕ)) → option_map (λ vs. join_all (map one vs)) r ≡ r
+all_ones None = refl
+all_ones (Some vs) = ap Some (ones vs)
+
+pub octets_read : (text : List ℕ) → read_in 4 octet_of (split_on 46 text) ≡ octets_of text
+unfolding octets_of read_in
+octets_read text =
+    let ps = split_on 46 text in
+    sym (all_ones (pick (leb (length ps) 4) (read_all octet_of ps) None)) ∙ address_read octet (decimal_from 0) reads octet_byte one same (leb (length ps) 4) ps

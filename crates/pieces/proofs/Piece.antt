@@ -6,30 +6,15 @@ use Prim.Native.Nat.{ℕ, zero, suc, ◌+◌, ◌-◌, ◌<◌, ◌≤◌}
 use native.Mathlib.Nat.{add-zero}
 use native.Mathlib.Numerals.{add-one}
 use native.Mathlib.Omega.{arith}
-use borrow.Author.Rules.{rules}
-use borrow.Author.Tests.{eq-eqb, ne_eqb}
 use lib.Dec.{eqb}
-use lib.ListN.{length, get_or, take, drop, drop_of_length-le}
+use lib.ListN.{length, take, drop, drop_of_length-le}
 use lib.Seq.{drop-cons, drop-drop}
 use Rattle.rules.specs.Lists.{pick, onto_first, split_on}
-use Rattle.wire.proofs.Steps.{left_at}
-use Rattle.pieces.specs.Pieces.{first_at, IsEnd, behind_byte, pieces_from}
-
--- the end of a piece looked for
-module _ (s : List ℕ) (start b i : ℕ) (e : start + first_at b (drop start s) ≡ i + first_at b (drop i s)) (l : start ≤ i) where
-  pub at_byte : i < length s → get_or s i 0 ≡ b → IsEnd b s start i
-  unfolding first_at pick
-  at_byte h q = record { says = sym (e ∙ rw (left_at s i h, eq-eqb (get_or s i 0) b q, add-zero i)); above = l; within = omega arith }
-
-  pub on : i < length s → (get_or s i 0 ≡ b → ⊥) → start + first_at b (drop start s) ≡ i + 1 + first_at b (drop (i + 1) s)
-  unfolding first_at pick
-  on h q = e ∙ rw (left_at s i h, ne_eqb (get_or s i 0) b q) (omega arith)
-
-  pub at_end : length s ≤ i → i ≤ length s → IsEnd b s start i
-  unfolding first_at
-  at_end h k = record { says = sym (e ∙ rw (drop_of_length-le s h, add-zero i)); above = l; within = k }
-
-pub ruleset end_laws = (at_byte, on, at_end, rules)
+use Rattle.std.proofs.Common.{Option, Some, None, Bor, ap}
+use Rattle.std.proofs.lemmas.List.{take_rest}
+use mathlib.Core.Logic.{⊎_elim}
+use Rattle.std.specs.Slice.{IsGetRangeResult}
+use Rattle.pieces.specs.Pieces.{first_at, IsEnd, behind_byte, pieces_from, pieces_left}
 
 -- a text is its first piece and those behind the byte that ends it
 first_piece : (b : ℕ) (t : List ℕ) → split_on b t ≡ take (first_at b t) t ∷ behind_byte b (drop (first_at b t) t)
@@ -64,3 +49,16 @@ no_piece b s (suc e) h = rw (drop_of_length-le s {i = e} (omega arith))
 pub all_pieces : (b : ℕ) (s : List ℕ) → pieces_from b s 0 ≡ split_on b s
 unfolding pieces_from
 all_pieces b s = refl
+
+-- what is left behind a text's first piece
+pub step : (b : ℕ) (t : List ℕ) (e : ℕ) (r : Option (Bor (List ℕ))) → e ≡ first_at b t → IsGetRangeResult t (e + 1) (length t) r → split_on b t ≡ take e t ∷ pieces_left b r
+unfolding pieces_left behind_byte
+step b t e None p h = first_piece b t ∙ rw (← p, drop_of_length-le t {i = e} (⊎_elim (λ l. omega arith) (λ l. omega arith) h.0)) refl
+step b t e (Some x) p h =
+    let l : e + 1 ≤ length t = h.0.0 in
+    let q : x.now ≡ drop (e + 1) t = h.0.2 ∙ take_rest t (e + 1) in
+    first_piece b t ∙ rw (← p, drop-cons t e 0 (omega arith), q, add-one) refl
+
+pub left : (b : ℕ) (s : Option (Bor (List ℕ))) (t : Bor (List ℕ)) → s ≡ Some t → (e : ℕ) (r : Option (Bor (List ℕ))) → e ≡ first_at b t.now → IsGetRangeResult t.now (e + 1) (length t.now) r → pieces_left b s ≡ take e t.now ∷ pieces_left b r
+unfolding pieces_left
+left b s t q e r p h = rw q (step b t.now e r p h)

@@ -1,5 +1,8 @@
 -- The pieces of a text between the bytes equal to b, by their places.
-use Rattle.std.specs.Prelude.{◌≡◌, List, [], ◌∷◌, ℕ, zero, suc, ◌+◌, ◌≤◌, eqb, length, drop}
+use Rattle.std.specs.Prelude.{◌≡◌, List, [], ◌∷◌, ℕ, zero, suc, ◌+◌, ◌≤◌, eqb, leb, length, drop, Option, Some, None}
+use Rattle.std.specs.Fn.{FnReturnsAt}
+use denote.Ref.{Bor}
+use denote.Param.Members.{Shared}
 use Rattle.rules.specs.Lists.{pick, split_on}
 
 -- the place of the first byte b, or the length
@@ -22,3 +25,30 @@ behind_byte b (x ∷ xs) = split_on b xs
 unfoldable pub pieces_from : ℕ → List ℕ → ℕ → List (List ℕ)
 pieces_from b text zero = split_on b text
 pieces_from b text (suc end) = behind_byte b (drop end text)
+
+-- the pieces of what is left of a text
+unfoldable pub pieces_left : ℕ → Option (Bor (List ℕ)) → List (List ℕ)
+pieces_left b None = []
+pieces_left b (Some text) = split_on b text.now
+
+-- what a reader of pieces computes
+abbrev pub Reads : {F A : Type 0} → Shared F (Bor (List ℕ) × Unit {0}) (Option A) → F → (List ℕ → Option A) → Type 0
+Reads g read f = (piece : List ℕ) (r : _) → FnReturnsAt g read piece r → r ≡ f piece
+
+module _ {A : Type 0} where
+  unfoldable pub onto_read : A → Option (List A) → Option (List A)
+  onto_read v None = None
+  onto_read v (Some vs) = Some (v ∷ vs)
+
+  unfoldable pub then_read : Option A → Option (List A) → Option (List A)
+  then_read None vs = None
+  then_read (Some v) vs = onto_read v vs
+
+  -- each piece read, where each can be
+  unfoldable pub read_all : (List ℕ → Option A) → List (List ℕ) → Option (List A)
+  read_all f [] = Some []
+  read_all f (p ∷ ps) = then_read (f p) (read_all f ps)
+
+  -- the same, where there are no more pieces than room for them
+  unfoldable pub read_in : ℕ → (List ℕ → Option A) → List (List ℕ) → Option (List A)
+  read_in room f pieces = pick (leb (length pieces) room) (read_all f pieces) None

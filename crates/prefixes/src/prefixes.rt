@@ -1,32 +1,16 @@
 // A prefix of an address.
+ghost use Rattle.std.specs.Prelude.{◌≡◌};
 ghost use Rattle.rules.specs.Fields.{prefix_of};
-ghost use Rattle.prefixes.specs.Prefixes.{IsPrefix};
 
+use buffer::filled::Filled;
 use octets::octets::octets;
 
-// The first len bytes, where they are good.
-#[derive(Clone, Copy)]
-pub struct PrefixRead {
-    pub bytes: [u8; 4],
-    pub len: usize,
-    pub good: bool,
-}
-
 // None to four numbers.
-pub fn prefix(text: &[u8]) -> PrefixRead
-    ensures { IsPrefix (prefix_of text.now) result }
+pub fn prefix(text: &[u8]) -> Option<Filled<4>>
+    ensures { result ≡ prefix_of text.now }
 {
     if text.len() == 0 {
-        let bytes = [0u8; 4];
-        return PrefixRead {
-            bytes,
-            len: 0,
-            good: true,
-        };
+        return Some(Filled::new([0u8; 4], 0));
     }
-    let read = octets(text);
-    let bytes = read.bytes;
-    let len = read.count;
-    let good = read.good;
-    PrefixRead { bytes, len, good }
+    octets(text)
 }

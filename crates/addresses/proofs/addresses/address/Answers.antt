@@ -1,18 +1,9 @@
-use borrow.Author.Rules.{rules}
-use Rattle.addresses.proofs.Address.{with_underscore, address_laws}
+use Rattle.std.proofs.Common.{◌∙◌}
+use Rattle.addresses.proofs.Forms.{by_groups, by_dots}
 use Rattle.addresses.proofs.addresses.address.Goals as goal
 
-pub has_byte-requires : goal.has_byte-requires
-has_byte-requires c = search address_laws
-
-pub grouped_address-requires : goal.grouped_address-requires
-grouped_address-requires c = search address_laws
-
 pub returns-then-has_byte : goal.returns-then-has_byte
-returns-then-has_byte c = search (with_underscore, rules)
+returns-then-has_byte c = c.grouped_address.ensures ∙ by_groups c.args.text.now _ c.has_byte.ensures c.if-has_byte.true
 
-pub dotted_address-requires : goal.dotted_address-requires
-dotted_address-requires c = search address_laws
-
-pub returns : goal.returns
-returns c = search address_laws
+pub returns-else-has_byte : goal.returns-else-has_byte
+returns-else-has_byte c = c.dotted_address.ensures ∙ by_dots c.args.text.now _ c.has_byte.ensures c.if-has_byte.false

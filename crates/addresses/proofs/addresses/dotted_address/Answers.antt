@@ -1,36 +1,14 @@
-use borrow.Author.Rules.{rules}
-use Rattle.addresses.proofs.Address.{four, dotted_laws}
+use Rattle.std.proofs.Common.{◌≡◌, ◌∙◌, ap, sym, length, Some, arith}
+use Rattle.addresses.proofs.Forms.{no_numbers, too_few, just_four, four}
 use Rattle.addresses.proofs.addresses.dotted_address.Goals as goal
 
-pub octets-read-requires : goal.octets-read-requires
-octets-read-requires c = search dotted_laws
+pub returns-in_err-read : goal.returns-in_err-read
+returns-in_err-read c = rw c.from_residual.ensures (no_numbers c.args.text.now c.in_err-read.ensures)
 
-pub bounds-first-0 : goal.bounds-first-0
-bounds-first-0 c = search dotted_laws
+pub returns-in-len4 : goal.returns-in-len4
+returns-in-len4 c =
+    let l : length c.as_slice.result.now ≡ 4 = omega (arith, c.in-len4.len_at_least, c.as_slice.ensures.len) in
+    ap Some (four c.as_slice.result.now l) ∙ just_four c.args.text.now c.as_slice.result.now (ap Some c.as_slice.ensures.value ∙ c.in_ok-read.ensures) l
 
-pub bounds-bytes-0 : goal.bounds-bytes-0
-bounds-bytes-0 c = search dotted_laws
-
-pub bounds-first-1 : goal.bounds-first-1
-bounds-first-1 c = search dotted_laws
-
-pub bounds-bytes-1 : goal.bounds-bytes-1
-bounds-bytes-1 c = search dotted_laws
-
-pub bounds-first-2 : goal.bounds-first-2
-bounds-first-2 c = search dotted_laws
-
-pub bounds-bytes-2 : goal.bounds-bytes-2
-bounds-bytes-2 c = search dotted_laws
-
-pub bounds-first-3 : goal.bounds-first-3
-bounds-first-3 c = search dotted_laws
-
-pub bounds-bytes-3 : goal.bounds-bytes-3
-bounds-bytes-3 c = search dotted_laws
-
-pub returns-then-count-eq4 : goal.returns-then-count-eq4
-returns-then-count-eq4 c = search (four, rules)
-
-pub returns : goal.returns
-returns c = search dotted_laws
+pub returns-in_default : goal.returns-in_default
+returns-in_default c = too_few c.args.text.now c.as_slice.result.now (ap Some c.as_slice.ensures.value ∙ c.in_ok-read.ensures) c.in_default.len_below

@@ -1,14 +1,9 @@
-use Rattle.addresses.proofs.Address.{grouped_laws}
+use Rattle.std.proofs.Common.{◌∙◌, ap, Some}
+use Rattle.addresses.proofs.Forms.{grouped}
 use Rattle.addresses.proofs.addresses.grouped_address.Goals as goal
 
-pub groups-read-requires : goal.groups-read-requires
-groups-read-requires c = search grouped_laws
-
-pub address_bytes-bytes-requires : goal.address_bytes-bytes-requires
-address_bytes-bytes-requires c = search grouped_laws
-
-pub returns-then-good : goal.returns-then-good
-returns-then-good c = search grouped_laws
+pub returns-in_err-eight : goal.returns-in_err-eight
+returns-in_err-eight c = rw c.from_residual.ensures (c.in_err-eight.ensures ∙ grouped c.args.text.now)
 
 pub returns : goal.returns
-returns c = search grouped_laws
+returns c = ap Some c.address_bytes.ensures ∙ c.in_ok-eight.ensures ∙ grouped c.args.text.now

@@ -1,26 +1,25 @@
-use Rattle.codes.proofs.Los.{lo_laws}
+use Rattle.std.proofs.Common.{◌∙◌, arith}
+use Rattle.codes.proofs.Los.{one, one_none, two, first_none, second_none, empty, long}
 use Rattle.codes.proofs.codes.lo.Goals as goal
 
-pub bounds-text-0 : goal.bounds-text-0
-bounds-text-0 c = search lo_laws
+pub returns-in_err-letter-in-len1 : goal.returns-in_err-letter-in-len1
+returns-in_err-letter-in-len1 c = c.from_residual.ensures ∙ one_none c.args.text.now c.in-len1.len_at_least c.in-len1.len_below c.in_err-letter-in-len1.ensures
 
-pub one_letter-requires : goal.one_letter-requires
-one_letter-requires c = search lo_laws
+pub returns-in_err-letter-in-len2 : goal.returns-in_err-letter-in-len2
+returns-in_err-letter-in-len2 c = c.from_residual-in_err-letter-in-len2.ensures ∙ first_none c.args.text.now c.in-len2.len_at_least c.in-len2.len_below c.in_err-letter-in-len2.ensures
 
-pub returns-then-n-eq1 : goal.returns-then-n-eq1
-returns-then-n-eq1 c = search lo_laws
+pub returns-in_err-letter-in-len2-2 : goal.returns-in_err-letter-in-len2-2
+returns-in_err-letter-in-len2-2 c =
+    c.from_residual-in_err-letter-in-len2-2.ensures ∙ second_none c.args.text.now c.in-len2.len_at_least c.in-len2.len_below c.in_err-letter-in-len2-2.ensures
 
-pub bounds-text-0-then-n-eq2 : goal.bounds-text-0-then-n-eq2
-bounds-text-0-then-n-eq2 c = search lo_laws
+pub returns-in_ok-letter-in-len1 : goal.returns-in_ok-letter-in-len1
+returns-in_ok-letter-in-len1 c = one c.args.text.now _ c.in-len1.len_at_least c.in-len1.len_below c.in_ok-letter-in-len1.ensures
 
-pub bounds-text-1 : goal.bounds-text-1
-bounds-text-1 c = search lo_laws
+pub returns-in_ok-letter-in-len2-2 : goal.returns-in_ok-letter-in-len2-2
+returns-in_ok-letter-in-len2-2 c = two c.args.text.now _ _ c.in-len2.len_at_least c.in-len2.len_below c.in_ok-letter-in-len2.ensures c.in_ok-letter-in-len2-2.ensures
 
-pub two_letters-requires : goal.two_letters-requires
-two_letters-requires c = search lo_laws
+pub returns-in_default : goal.returns-in_default
+returns-in_default c = empty c.args.text.now c.in_default.len_below
 
-pub returns-then-n-eq2 : goal.returns-then-n-eq2
-returns-then-n-eq2 c = search lo_laws
-
-pub returns : goal.returns
-returns c = search lo_laws
+pub returns-in_default-2 : goal.returns-in_default-2
+returns-in_default-2 c = long c.args.text.now c.in_default.len_at_least

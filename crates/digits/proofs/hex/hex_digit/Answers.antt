@@ -1,26 +1,17 @@
-use Rattle.digits.proofs.HexDigit.{hex_laws}
+use Rattle.digits.proofs.Digit.{hex_laws}
 use Rattle.digits.proofs.hex.hex_digit.Goals as goal
 
-pub returns-then-b-lt48 : goal.returns-then-b-lt48
-returns-then-b-lt48 c = search hex_laws
+pub returns-in-48-to-57 : goal.returns-in-48-to-57
+returns-in-48-to-57 c = search hex_laws
 
-pub overflow_cast-result : goal.overflow_cast-result
-overflow_cast-result c = search hex_laws
+pub returns-in-97-to-102 : goal.returns-in-97-to-102
+returns-in-97-to-102 c = search hex_laws
 
-pub returns-then-b-le57 : goal.returns-then-b-le57
-returns-then-b-le57 c = search hex_laws
+pub returns-in_default : goal.returns-in_default
+returns-in_default c = search hex_laws
 
-pub returns-then-b-lt97 : goal.returns-then-b-lt97
-returns-then-b-lt97 c = search hex_laws
+pub returns-in_default-2 : goal.returns-in_default-2
+returns-in_default-2 c = search hex_laws
 
-pub overflow_sub-result-then-b-le102 : goal.overflow_sub-result-then-b-le102
-overflow_sub-result-then-b-le102 c = search hex_laws
-
-pub overflow_cast-result-then-b-le102 : goal.overflow_cast-result-then-b-le102
-overflow_cast-result-then-b-le102 c = search hex_laws
-
-pub returns-then-b-le102 : goal.returns-then-b-le102
-returns-then-b-le102 c = search hex_laws
-
-pub returns : goal.returns
-returns c = search hex_laws
+pub returns-in_default-3 : goal.returns-in_default-3
+returns-in_default-3 c = search hex_laws

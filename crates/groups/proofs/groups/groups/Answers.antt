@@ -1,59 +1,17 @@
-use Rattle.rules.specs.Lists.{be}
-use Rattle.rules.specs.Fields.{hex_from, group, group_bytes}
-use Rattle.octets.proofs.Taken.{begin, bad, more}
-use Rattle.groups.proofs.Grouped.{group_bytes_lem, groups_laws}
+use Rattle.std.proofs.Common.{◌≡◌, ◌∙◌, ℕ, ap, length, rules}
+use Rattle.groups.specs.Groups.{group_of}
+use Rattle.groups.proofs.Group.{refused, eight, other}
 use Rattle.groups.proofs.groups.groups.Goals as goal
 
-pub loop-start-init : goal.loop-start-init
-loop-start-init c = search (begin group group_bytes (be 2) 95, groups_laws)
+pub returns-in_err-count : goal.returns-in_err-count
+returns-in_err-count c = rw c.from_residual.ensures (refused c.args.text.now (c.in_err-count.ensures.values group_of (λ piece r h. h.says.met ∙ ap group_of h.shows)))
 
-pub piece_end-end-requires : goal.piece_end-end-requires
-piece_end-end-requires c = search groups_laws
+pub returns-then-count-eq8 : goal.returns-then-count-eq8
+returns-then-count-eq8 c =
+    eight c.args.text.now c.read_pieces.new.out c.in_ok-count.count (search rules) c.in_ok-count.ensures.room (c.in_ok-count.ensures.values group_of (λ piece r h. h.says.met ∙ ap group_of h.shows))
+    c.if-count-eq8.true
 
-pub returns-then-count-gt7 : goal.returns-then-count-gt7
-returns-then-count-gt7 c = search groups_laws
-
-pub slice_bounds-group-count : goal.slice_bounds-group-count
-slice_bounds-group-count c = search groups_laws
-
-pub slice_bounds-group-start : goal.slice_bounds-group-start
-slice_bounds-group-start c = search groups_laws
-
-pub slice_bounds-group-end : goal.slice_bounds-group-end
-slice_bounds-group-end c = search groups_laws
-
-pub group-requires : goal.group-requires
-group-requires c = search groups_laws
-
-pub enum_known-value : goal.enum_known-value
-enum_known-value c = search groups_laws
-
-pub overflow_cast-groups : goal.overflow_cast-groups
-overflow_cast-groups c = search groups_laws
-
-pub offset_bounds-groups-count : goal.offset_bounds-groups-count
-offset_bounds-groups-count c = search groups_laws
-
-pub bounds-groups-count : goal.bounds-groups-count
-bounds-groups-count c = search groups_laws
-
-pub overflow_add-count : goal.overflow_add-count
-overflow_add-count c = search groups_laws
-
-pub overflow_add-start : goal.overflow_add-start
-overflow_add-start c = search groups_laws
-
-pub loop-start-smaller : goal.loop-start-smaller
-loop-start-smaller c = search groups_laws
-
-pub loop-start-preserved : goal.loop-start-preserved
-loop-start-preserved c = search (more group group_bytes (be 2) 95 (hex_from 0) group_bytes_lem 65535, groups_laws)
-
-pub enum_told-1 : goal.enum_told-1
-enum_told-1 c = search groups_laws
-
-pub returns-in-Bad : goal.returns-in-Bad
-returns-in-Bad c = search (bad group group_bytes (be 2) 95 (hex_from 0) group_bytes_lem 65535, groups_laws)
-
-pub returns : goal.returns
-returns c = search groups_laws
+pub returns-else-count-eq8 : goal.returns-else-count-eq8
+returns-else-count-eq8 c =
+    other c.args.text.now c.read_pieces.new.out c.in_ok-count.count (search rules) c.in_ok-count.ensures.room (c.in_ok-count.ensures.values group_of (λ piece r h. h.says.met ∙ ap group_of h.shows))
+    c.if-count-eq8.false

@@ -4,22 +4,22 @@ use Rattle.wire.proofs.Steps.{tests}
 use Rattle.judged_names.specs.NameCounts.{byte_kind}
 use Rattle.judged_names.proofs.judged.kind_of_byte.Goals as goal
 
-pub returns-then-b-eq46 : goal.returns-then-b-eq46
+pub returns-in-46 : goal.returns-in-46
 unfolding byte_kind name_byte pick
-returns-then-b-eq46 c = search tests
+returns-in-46 c = search tests
 
-pub returns-then-b-lt33 : goal.returns-then-b-lt33
+pub returns-in-92 : goal.returns-in-92
 unfolding byte_kind name_byte pick
-returns-then-b-lt33 c = search tests
+returns-in-92 c = search tests
 
-pub returns-then-b-gt126 : goal.returns-then-b-gt126
+pub returns-in-33-to-126 : goal.returns-in-33-to-126
 unfolding byte_kind name_byte pick
-returns-then-b-gt126 c = search tests
+returns-in-33-to-126 c = search tests
 
-pub returns-then-b-eq92 : goal.returns-then-b-eq92
+pub returns-in_default : goal.returns-in_default
 unfolding byte_kind name_byte pick
-returns-then-b-eq92 c = search tests
+returns-in_default c = search tests
 
-pub returns : goal.returns
+pub returns-in_default-2 : goal.returns-in_default-2
 unfolding byte_kind name_byte pick
-returns c = search tests
+returns-in_default-2 c = search tests

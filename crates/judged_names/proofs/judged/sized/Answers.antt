@@ -8,6 +8,6 @@ pub returns-then-size-le255 : goal.returns-then-size-le255
 unfolding judged_size longest_name pick
 returns-then-size-le255 c = search tests
 
-pub returns-else-size-le255 : goal.returns-else-size-le255
+pub returns : goal.returns
 unfolding judged_size longest_name pick
-returns-else-size-le255 c = search tests
+returns c = search tests

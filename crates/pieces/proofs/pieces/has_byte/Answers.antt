@@ -1,23 +1,6 @@
-use Rattle.pieces.proofs.Find.{has_laws}
+use Rattle.std.proofs.Common.{◌∙◌}
+use Rattle.pieces.proofs.Find.{any_has}
 use Rattle.pieces.proofs.pieces.has_byte.Goals as goal
 
-pub loop-i-init : goal.loop-i-init
-loop-i-init c = search has_laws
-
-pub bounds-text-i : goal.bounds-text-i
-bounds-text-i c = search has_laws
-
-pub returns-then-text-i : goal.returns-then-text-i
-returns-then-text-i c = search has_laws
-
-pub overflow_add-i : goal.overflow_add-i
-overflow_add-i c = search has_laws
-
-pub loop-i-smaller : goal.loop-i-smaller
-loop-i-smaller c = search has_laws
-
-pub loop-i-preserved : goal.loop-i-preserved
-loop-i-preserved c = search has_laws
-
 pub returns : goal.returns
-returns c = search has_laws
+returns c = c.contains.ensures.value ∙ any_has c.args.b c.args.text.now

@@ -1,23 +1,8 @@
-use Rattle.pieces.proofs.Piece.{end_laws}
+use Rattle.std.proofs.Common.{◌≡◌, ◌∙◌, ◌-◌, ap, length, take, drop, arith, length-drop}
+use Rattle.std.proofs.lemmas.List.{take_rest}
+use Rattle.pieces.specs.Pieces.{first_at}
+use Rattle.pieces.proofs.Find.{is_end}
 use Rattle.pieces.proofs.pieces.piece_end.Goals as goal
 
-pub loop-i-init : goal.loop-i-init
-loop-i-init c = search end_laws
-
-pub bounds-text-i : goal.bounds-text-i
-bounds-text-i c = search end_laws
-
-pub returns-then-text-i : goal.returns-then-text-i
-returns-then-text-i c = search end_laws
-
-pub overflow_add-i : goal.overflow_add-i
-overflow_add-i c = search end_laws
-
-pub loop-i-smaller : goal.loop-i-smaller
-loop-i-smaller c = search end_laws
-
-pub loop-i-preserved : goal.loop-i-preserved
-loop-i-preserved c = search end_laws
-
 pub returns : goal.returns
-returns c = search end_laws
+returns c = is_end c.args.b c.args.text.now c.args.start _ c.requires (c.first_place.ensures.place ∙ ap (first_at c.args.b) (take_rest c.args.text.now c.args.start))

@@ -1,11 +1,9 @@
-use Rattle.prefixes.proofs.Prefix.{prefix_laws}
+use Rattle.std.proofs.Common.{◌∙◌, ap, Some}
+use Rattle.prefixes.proofs.Prefix.{no_prefix, some_prefix}
 use Rattle.prefixes.proofs.prefixes.prefix.Goals as goal
 
 pub returns-then-text-eq0 : goal.returns-then-text-eq0
-returns-then-text-eq0 c = search prefix_laws
-
-pub octets-read-requires : goal.octets-read-requires
-octets-read-requires c = search prefix_laws
+returns-then-text-eq0 c = ap Some c.new.ensures ∙ no_prefix c.args.text.now c.if-text-eq0.true
 
 pub returns : goal.returns
-returns c = search prefix_laws
+returns c = c.octets.ensures ∙ some_prefix c.args.text.now c.if-text-eq0.false

@@ -1,41 +1,15 @@
-use Rattle.times.proofs.Time.{other_length_lem, time_laws}
+use Rattle.std.proofs.Common.{◌∙◌, rules}
+use Rattle.times.proofs.Time.{no_number, within, zero, late}
 use Rattle.times.proofs.times.time.Goals as goal
 
-pub returns-then-n-ne-DIGITS : goal.returns-then-n-ne-DIGITS
-returns-then-n-ne-DIGITS c = other_length_lem _ c.if-n-ne-DIGITS.true
+pub returns-in_err-value : goal.returns-in_err-value
+returns-in_err-value c = rw c.from_residual.ensures (no_number c.args.text.now c.in_err-value.ensures)
 
-pub loop-i-init : goal.loop-i-init
-loop-i-init c = search time_laws
+pub returns-in-1-to-9223372036854775807 : goal.returns-in-1-to-9223372036854775807
+returns-in-1-to-9223372036854775807 c = let e = within c.args.text.now c.in_ok-value.value c.in_ok-value.ensures in search rules
 
-pub bounds-text-i : goal.bounds-text-i
-bounds-text-i c = search time_laws
+pub returns-in_default : goal.returns-in_default
+returns-in_default c = let e = zero c.args.text.now c.in_ok-value.value c.in_ok-value.ensures in search rules
 
-pub hex_digit-d-requires : goal.hex_digit-d-requires
-hex_digit-d-requires c = search time_laws
-
-pub returns-then-d-ge16 : goal.returns-then-d-ge16
-returns-then-d-ge16 c = search time_laws
-
-pub overflow_mul-value : goal.overflow_mul-value
-overflow_mul-value c = search time_laws
-
-pub overflow_add-value : goal.overflow_add-value
-overflow_add-value c = search time_laws
-
-pub overflow_add-i : goal.overflow_add-i
-overflow_add-i c = search time_laws
-
-pub loop-i-smaller : goal.loop-i-smaller
-loop-i-smaller c = search time_laws
-
-pub loop-i-preserved : goal.loop-i-preserved
-loop-i-preserved c = search time_laws
-
-pub returns-then-value-eq0 : goal.returns-then-value-eq0
-returns-then-value-eq0 c = search time_laws
-
-pub returns-then-value-ge9223372036854775808 : goal.returns-then-value-ge9223372036854775808
-returns-then-value-ge9223372036854775808 c = search time_laws
-
-pub returns : goal.returns
-returns c = search time_laws
+pub returns-in_default-2 : goal.returns-in_default-2
+returns-in_default-2 c = let e = late c.args.text.now c.in_ok-value.value c.in_ok-value.ensures in search rules
