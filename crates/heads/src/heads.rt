@@ -7,7 +7,7 @@ ghost use Rattle.buffer.specs.Put.{IsPut};
 ghost use Rattle.heads.specs.Head.{owner_key, key_size, flag_of, fixed_fields, fixed_size, head_of, head_size};
 
 use buffer::put::{put_bytes, put_lowered};
-use integers::integers::{put_le, put_u16, put_u32, put_u64};
+use integers::integers::{put_be, put_each_le};
 use rules::quantities::{Lo, Shared};
 use wire::stars::is_wild;
 
@@ -48,19 +48,11 @@ pub(crate) fn put_lo(out: &mut [u8], lo: Lo) -> usize
 fn flag(wild: bool, lo: Lo) -> u8
     ensures { result ≡ flag_of wild lo }
 {
-    match lo {
-        Lo::Every => {
-            if wild {
-                return b'*';
-            }
-            b'='
-        }
-        Lo::Code(_, _) => {
-            if wild {
-                return b'+';
-            }
-            b'>'
-        }
+    match (lo, wild) {
+        (Lo::Every, true) => b'*',
+        (Lo::Every, false) => b'=',
+        (Lo::Code(_, _), true) => b'+',
+        (Lo::Code(_, _), false) => b'>',
     }
 }
 
@@ -79,8 +71,7 @@ pub(crate) fn put_lengths(out: &mut [u8], key: usize, rest: usize) -> usize
     ensures put { IsPut (le 4 key ++ le 4 rest) out.old out.new result }
     ensures value { result ≡ 8 }
 {
-    let used = put_le(out, 4, key as u64);
-    used + put_le(&mut out[used..], 4, rest as u64)
+    put_each_le(out, 4, &[key as u64, rest as u64])
 }
 
 // The owner with its letters lowered, behind its star label.
@@ -100,8 +91,8 @@ fn put_times(out: &mut [u8], ttl: u32, time: u64) -> usize
     ensures put { IsPut (be 4 ttl ++ be 8 time) out.old out.new result }
     ensures value { result ≡ 12 }
 {
-    let used = put_u32(out, ttl);
-    used + put_u64(&mut out[used..], time)
+    let used = put_be(out, ttl);
+    used + put_be(&mut out[used..], time)
 }
 
 // The fields before the record data.
@@ -113,7 +104,7 @@ fn put_fixed(out: &mut [u8], owner: &[u8], rtype: u16, shared: Shared) -> usize
     let ttl = shared.ttl;
     let time = shared.time;
     let lo = shared.lo;
-    let a = put_u16(out, rtype);
+    let a = put_be(out, rtype);
     let b = a + put_flag(&mut out[a..], is_wild(owner), lo);
     b + put_times(&mut out[b..], ttl.0, time.0)
 }

@@ -1,11 +1,9 @@
 -- What is read of a line with a field x.
-use Rattle.std.specs.Prelude.{◌≡◌, Bool, true, false, List, [], ◌∷◌, ◌++◌, ℕ, ◌≤◌, length}
-use Rattle.rules.specs.Lists.{split_on}
+use Rattle.std.specs.Prelude.{◌≡◌, Bool, true, false, List, [], ◌∷◌, ◌++◌, ℕ}
 use Rattle.rules.specs.Kinds.{field_at}
 use Rattle.rules.specs.Names.{wire_of}
 use Rattle.rules.specs.Records.{Record, ns, mx, srv, shared_of, resource_of, host_name, address_records, address_in}
 use Rattle.rules.specs.declared.kinds.Kind.{Kind}
-use Rattle.names.specs.Held.{held_name, IsName}
 use Rattle.addresses.specs.HeldAddress.{held_address, IsHeld}
 use Rattle.hosts.specs.declared.hosts.HostLine.{HostLine}
 
@@ -42,22 +40,14 @@ names_host Kind.Generic = false
 names_host Kind.Unknown = false
 
 -- what is read of such a line
-pub record IsHostLine (kind : Kind) (s : List ℕ) (h : HostLine) : Type 0 where
-  pub shared : h.shared ≡ shared_of kind (split_on 58 s)
-  pub owner : IsName (wire_of (field_at (split_on 58 s) 0)) h.owner
-  pub host : IsName (host_name (middle_of kind) (wire_of (field_at (split_on 58 s) 0)) (field_at (split_on 58 s) 2)) h.host
-  pub address : held_address h.address ≡ address_in (field_at (split_on 58 s) 1)
-  pub held : IsHeld h.address
-
--- names and an address that can be lent
-pub record Lendable (h : HostLine) : Type 0 where
-  pub owner_short : h.owner.len ≤ 255
-  pub owner_long : length h.owner.bytes ≡ 255
-  pub host_short : h.host.len ≤ 255
-  pub host_long : length h.host.bytes ≡ 255
+pub record IsHostLine (kind : Kind) (fields : List (List ℕ)) (h : HostLine) : Type 0 where
+  pub shared : h.shared ≡ shared_of kind fields
+  pub owner : h.owner ≡ wire_of (field_at fields 0)
+  pub host : h.host ≡ host_name (middle_of kind) (wire_of (field_at fields 0)) (field_at fields 2)
+  pub address : held_address h.address ≡ address_in (field_at fields 1)
   pub held : IsHeld h.address
 
 -- the records of such a line behind its SOA: a record that names the host behind some bytes, and the host's address
 abbrev pub host_records : HostLine → ℕ → List ℕ → List Record
 host_records h type before =
-    resource_of h.shared (held_name h.owner) type (before ++ held_name h.host) ∷ address_records h.shared (held_name h.host) (held_address h.address)
+    resource_of h.shared h.owner type (before ++ h.host) ∷ address_records h.shared h.host (held_address h.address)

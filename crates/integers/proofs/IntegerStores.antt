@@ -1,62 +1,52 @@
--- The loops that store the bytes of a number: how a turn keeps the invariant, and what is put when the loop ends.
-use mathlib.Core.Path.{◌≡◌, ◌∙◌, sym}
-use mathlib.Core.List.{List, ◌∷◌, ◌++◌, append-nil}
-use Prim.Native.Nat.{ℕ, suc, ◌+◌, ◌-◌, ◌/◌, ◌%◌, ◌<◌, ◌≤◌}
+-- The bytes of a number: as the library gives them, and as a loop stores them.
+use mathlib.Core.Path.{◌≡◌, refl, ap, ◌∙◌, sym}
+use mathlib.Core.List.{List, [], ◌∷◌, ◌++◌, append-nil}
+use Prim.Native.Nat.{ℕ, zero, suc, ◌+◌, ◌-◌, ◌/◌, ◌%◌, ◌^◌, ◌<◌, ◌≤◌}
+use Rattle.std.proofs.Math.Nat.{div-div-eq-div-mul, pow-succ'}
 use native.Mathlib.Omega.{arith}
 use borrow.Author.Rules.{rules}
 use lib.ListN.{length, take, drop, set, length-set}
-use lib.Seq.{append_snoc, drop-cons, get_or-set_same, drop-set-lt}
+use lib.Seq.{append_snoc, take_all}
+use Rattle.std.specs.Int.{byte_at, bytes_high_first}
 use Rattle.rules.specs.Lists.{le, be}
 use Rattle.buffer.specs.Put.{IsPut}
 use Rattle.wire.proofs.Steps.{take_put}
-use Rattle.wire.proofs.Numbers.{length_be}
-use Rattle.buffer.proofs.Puts.{Run, run_none, run_store}
 
--- the bytes of a number, the lowest first
-module _ (width : ℕ) (out all : List ℕ) (i left : ℕ) (e : take i out ++ le (width - i) left ≡ all) where
-  pub le_more : (d : List ℕ) → i < width → width ≤ length d → length out ≡ length d
-      → take (i + 1) (set out i (left % 256)) ++ le (width - (i + 1)) (left / 256) ≡ all
+-- the library's bytes, the highest first: all but the lowest are those of the quotient
+byte_above : (k n : ℕ) → byte_at (suc k) n ≡ byte_at k (n / 256)
+byte_above zero n = refl
+byte_above (suc k) n = ap (λ (m : ℕ). n / m % 256) (pow-succ' 256 (suc k)) ∙ ap (λ (m : ℕ). m % 256) (sym (div-div-eq-div-mul n 256 (256 ^ suc k)))
+
+bytes_above : (k n : ℕ) → bytes_high_first (suc k) n ≡ bytes_high_first k (n / 256) ++ (n % 256 ∷ [])
+bytes_above zero n = refl
+bytes_above (suc k) n = rw (byte_above k n) (ap (λ (l : List ℕ). byte_at k (n / 256) ∷ l) (bytes_above k n))
+
+high_first : (k n : ℕ) → bytes_high_first k n ≡ be k n
+unfolding be
+high_first zero n = refl
+high_first (suc k) n = bytes_above k n ∙ ap (λ (l : List ℕ). l ++ (n % 256 ∷ [])) (high_first k (n / 256))
+
+pub be_bytes : (k n : ℕ) (bytes : List ℕ) → bytes ≡ bytes_high_first k n → bytes ≡ be k n
+be_bytes k n bytes e = e ∙ high_first k n
+
+-- a loop that stores the lowest first: what is stored before the bytes of what is left is the whole
+module _ (width : ℕ) (items all : List ℕ) (i rest : ℕ) (e : take i items ++ le (width - i) rest ≡ all) (l : length items ≡ width) where
+  pub le_more : i < width → take (i + 1) (set items i (rest % 256)) ++ le (width - (i + 1)) (rest / 256) ≡ all
   unfolding le
-  le_more d h k m =
+  le_more h =
       let q : width - i ≡ suc (width - (i + 1)) = omega arith in
       let f = rw q at e in
-      rw (take_put out i (left % 256) (omega arith), append_snoc) f
+      rw (take_put items i (rest % 256) (omega arith), append_snoc) f
 
-  pub le_all : (d : List ℕ) → Run d out i → width ≤ i → i ≤ width → IsPut all d out width
+  pub le_all : (d : List ℕ) → width ≤ i → width ≤ length d → IsPut all d (items ++ drop width d) width
   unfolding le
-  le_all d run h k =
-      let q : i ≡ width = omega arith in
+  le_all d h k =
       let z : width - i ≡ 0 = omega arith in
-      let f : take i out ≡ all = sym (append-nil (take i out)) ∙ rw z at e in
-      rw (← f, ← q) run
+      let a : take i items ≡ items = take_all i items (omega arith) in
+      let f : items ≡ all = sym (append-nil items) ∙ rw (z, a) at e in
+      let n : length all ≡ width = sym (ap length f) ∙ l in
+      record { count = sym n; room = omega arith; holds = rw (n, f) }
 
-  pub le_run : (d : List ℕ) → Run d out i → i < width → width ≤ length d → length out ≡ length d → Run d (set out i (left % 256)) (i + 1)
-  le_run d run h k m = run_store d out i (left % 256) run (omega arith) (omega arith)
+pub ruleset be_laws = (rules, be_bytes)
 
-pub le_begin : (d : List ℕ) (width n : ℕ) → take 0 d ++ le (width - 0) n ≡ le width n
-le_begin d width n = let q : width - 0 ≡ width = omega arith in rw q
-
--- and the highest first, from the last to the first
-pub be_more : (d out all : List ℕ) (width i left : ℕ) → be i left ++ drop i out ≡ all → 0 < i → i ≤ width → width ≤ length d → length out ≡ length d
-    → be (i - 1) (left / 256) ++ drop (i - 1) (set out (i - 1) (left % 256)) ≡ all
-unfolding be
-be_more d out all width i left e h k l m = go (i - 1) (omega arith)
-  where
-    go : (j : ℕ) → i ≡ suc j → be j (left / 256) ++ drop j (set out j (left % 256)) ≡ all
-    go j q =
-        let s : j < length (set out j (left % 256)) = simp length-set (omega arith) in
-        let t : drop j (set out j (left % 256)) ≡ left % 256 ∷ drop (suc j) out =
-        drop-cons (set out j (left % 256)) j 0 s ∙ rw (get_or-set_same out j (left % 256) 0 (omega arith), drop-set-lt (suc j) out j (left % 256) (omega arith)) in
-        rw (t, ← append_snoc) (rw q at e)
-
-pub be_all : (d out : List ℕ) (width n i left : ℕ) → be i left ++ drop i out ≡ be width n ++ drop width d → i ≤ 0 → width ≤ length d → IsPut (be width n) d out width
-unfolding be
-be_all d out width n i left e h k =
-    let l : length (be width n) ≡ width = length_be width n in
-    let q : i ≡ 0 = omega arith in
-    let f : out ≡ be width n ++ drop width d = rw q at e in
-    record { count = sym l; room = omega arith; holds = rw l f }
-
-pub ruleset le_laws = (rules, run_none, le_begin, le_run, le_more, le_all)
-
-pub ruleset be_laws = (rules, be_more, be_all)
+pub ruleset le_laws = (rules, length-set, le_more, le_all)

@@ -1,1 +1,2 @@
 pub mod IntegerStores
+pub mod Sequences

@@ -1,60 +1,86 @@
 // The bytes of a number, put at the front of the buffer that is lent.
-ghost use Rattle.std.specs.Prelude.{◌≡◌, ◌≤◌, length};
-ghost use Rattle.rules.specs.Lists.{be, le};
+ghost use Rattle.std.specs.Prelude.{◌≡◌, ◌≤◌, ◌*◌, ℕ, length, map};
+ghost use Rattle.rules.specs.Lists.{be, le, join_all};
 ghost use Rattle.buffer.specs.Put.{IsPut};
 
-// The lowest bytes of n, as many as width says, the highest of them first.
-fn put_be(out: &mut [u8], width: usize, n: u64) -> usize
-    requires { width ≤ length out.old }
-    ensures put { IsPut (be width n) out.old out.new result }
-    ensures value { result ≡ width }
-{
-    let mut left = n;
-    let mut i: usize = width;
-    while 0 < i {
-        i -= 1;
-        out[i] = (left % 256) as u8;
-        left = left / 256;
-    }
-    width
+use buffer::put::put_bytes;
+
+// A number that is put with all its bytes.
+pub trait Number<const WIDTH: usize>: Copy {
+    ghost value: { Self → ℕ };
+
+    fn highest_first(self) -> [u8; WIDTH]
+        ensures { result ≡ be WIDTH (value self) };
 }
 
-// The same bytes, the lowest first.
+impl Number<2> for u16 {
+    ghost value = { λ n. n };
+
+    fn highest_first(self) -> [u8; 2] {
+        self.to_be_bytes()
+    }
+}
+
+impl Number<4> for u32 {
+    ghost value = { λ n. n };
+
+    fn highest_first(self) -> [u8; 4] {
+        self.to_be_bytes()
+    }
+}
+
+impl Number<8> for u64 {
+    ghost value = { λ n. n };
+
+    fn highest_first(self) -> [u8; 8] {
+        self.to_be_bytes()
+    }
+}
+
+// The bytes of a number, the highest first.
+pub fn put_be<const WIDTH: usize, N: Number<WIDTH>>(out: &mut [u8], n: N) -> usize
+    requires { WIDTH ≤ length out.old }
+    ensures put { IsPut (be WIDTH (N.value n)) out.old out.new result }
+    ensures value { result ≡ WIDTH }
+{
+    put_bytes(out, &n.highest_first())
+}
+
+// Numbers, one behind the other.
+pub fn put_each_be<const WIDTH: usize, N: Number<WIDTH>>(out: &mut [u8], numbers: &[N]) -> usize
+    requires { WIDTH * length numbers.now ≤ length out.old }
+    ensures put { IsPut (join_all (map (λ n. be WIDTH (N.value n)) numbers.now)) out.old out.new result }
+    ensures value { result ≡ WIDTH * length numbers.now }
+{
+    let mut used = 0;
+    for &n in numbers {
+        used += put_be(&mut out[used..], n);
+    }
+    used
+}
+
+// The lowest bytes of a number, as many as width says, the lowest first.
 pub fn put_le(out: &mut [u8], width: usize, n: u64) -> usize
     requires { width ≤ length out.old }
     ensures put { IsPut (le width n) out.old out.new result }
     ensures value { result ≡ width }
 {
     let mut rest = n;
-    let mut i: usize = 0;
-    while i < width {
-        out[i] = (rest % 256) as u8;
+    for byte in &mut out[..width] {
+        *byte = (rest % 256) as u8;
         rest = rest / 256;
-        i += 1;
     }
     width
 }
 
-pub fn put_u16(out: &mut [u8], n: u16) -> usize
-    requires { 2 ≤ length out.old }
-    ensures put { IsPut (be 2 n) out.old out.new result }
-    ensures value { result ≡ 2 }
+pub fn put_each_le(out: &mut [u8], width: usize, numbers: &[u64]) -> usize
+    requires { width * length numbers.now ≤ length out.old }
+    ensures put { IsPut (join_all (map (le width) numbers.now)) out.old out.new result }
+    ensures value { result ≡ width * length numbers.now }
 {
-    put_be(out, 2, n as u64)
-}
-
-pub fn put_u32(out: &mut [u8], n: u32) -> usize
-    requires { 4 ≤ length out.old }
-    ensures put { IsPut (be 4 n) out.old out.new result }
-    ensures value { result ≡ 4 }
-{
-    put_be(out, 4, n as u64)
-}
-
-pub fn put_u64(out: &mut [u8], n: u64) -> usize
-    requires { 8 ≤ length out.old }
-    ensures put { IsPut (be 8 n) out.old out.new result }
-    ensures value { result ≡ 8 }
-{
-    put_be(out, 8, n)
+    let mut used = 0;
+    for &n in numbers {
+        used += put_le(&mut out[used..], width, n);
+    }
+    used
 }

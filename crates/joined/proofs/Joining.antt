@@ -10,7 +10,7 @@ use lib.Dec.{leb}
 use Rattle.std.specs.Prelude.{Result}
 use Rattle.std.specs.Result.{result_unwrap_or}
 use lib.ListN.{length, length-append}
-use Rattle.rules.specs.Lists.{pick, all, has, split_on}
+use Rattle.rules.specs.Lists.{pick, all, has}
 use Rattle.rules.specs.Kinds.{field_at}
 use Rattle.rules.specs.Names.{NameRead, named, misnamed, label, longest_name, name_of, wire_in, wire_of}
 use Rattle.rules.specs.Records.{ns, mx, srv, hostmaster, host_name, contact_of, joined_names}
@@ -20,7 +20,6 @@ use Rattle.rules.specs.declared.faults.FieldKind.{FieldKind}
 use Rattle.rules.specs.declared.faults.LineFault.{LineFault}
 use Rattle.rules.specs.declared.kinds.Kind.{Kind}
 use Rattle.rules.proofs.Names.{Wire, OnName, name_ok, short_of}
-use Rattle.rules.proofs.Lists.{split_short, all_fields}
 use Rattle.judged_names.specs.Views.{judged_of}
 use Rattle.judged_names.specs.declared.judged.Misnamed.{Misnamed}
 use Rattle.joined.specs.Joined.{middle_size, contact_size, host_size, if_short}
@@ -156,32 +155,24 @@ some_joined Kind.Authority fields h k = absurd (h refl)
 some_joined Kind.Generic fields h k = absurd (h refl)
 some_joined Kind.Unknown fields h k = absurd (h refl)
 
--- a field is no longer than the line
-pub field_short : (s : List ℕ) (i n : ℕ) → length s ≤ n → length (field_at (split_on 58 s) i) ≤ n
-unfolding field_at
-field_short s i n h = all_fields n i (split_short 58 n s h)
-
-module _ (s : List ℕ) (kind : Kind) (middle : ℕ) (e : (middle ≡ middle_size kind) × (middle ≤ 4)) where
-  pub nothing_joined : middle ≡ 0 → record { fault = Fault.Done; field = 0 } ≡ joined_fault (joined_names kind (split_on 58 s))
+module _ (fields : List (List ℕ)) (kind : Kind) (middle : ℕ) (e : (middle ≡ middle_size kind) × (middle ≤ 4)) where
+  pub nothing_joined : middle ≡ 0 → record { fault = Fault.Done; field = 0 } ≡ joined_fault (joined_names kind fields)
   unfolding no_fault
-  nothing_joined z = sym (none_joined kind (split_on 58 s) (omega (arith, e)))
+  nothing_joined z = sym (none_joined kind fields (omega (arith, e)))
 
-  module _ (t x : List ℕ) (owner host : ℕ) (some : middle ≡ 0 → ⊥) (p : t ≡ field_at (split_on 58 s) 0) (q : x ≡ field_at (split_on 58 s) 2) (o : (owner ≡ length (wire_of t)) × (owner ≤ 255)) (h : host ≡ host_size middle owner x) where
-    joined_is : joined_fault (joined_names kind (split_on 58 s)) ≡ pick (leb host 255) (if_short (contact_size kind + owner)) (if_short host)
+  module _ (t x : List ℕ) (owner host : ℕ) (some : middle ≡ 0 → ⊥) (p : t ≡ field_at fields 0) (q : x ≡ field_at fields 2) (o : (owner ≡ length (wire_of t)) × (owner ≤ 255)) (h : host ≡ host_size middle owner x) where
+    joined_is : joined_fault (joined_names kind fields) ≡ pick (leb host 255) (if_short (contact_size kind + owner)) (if_short host)
     joined_is =
-        let w : owner ≡ length (wire_of (field_at (split_on 58 s) 0)) = o.0 ∙ ap (λ (l : List ℕ). length (wire_of l)) p in
-        some_joined kind (split_on 58 s) (λ z. some (e.0 ∙ z)) (omega (arith, o))
+        let w : owner ≡ length (wire_of (field_at fields 0)) = o.0 ∙ ap (λ (l : List ℕ). length (wire_of l)) p in
+        some_joined kind fields (λ z. some (e.0 ∙ z)) (omega (arith, o))
         ∙ rw (← w, ← q, ← e.0, ← h)
 
-    pub long_host : (r : LineFault) → 255 < host → r ≡ if_short host → r ≡ joined_fault (joined_names kind (split_on 58 s))
+    pub long_host : (r : LineFault) → 255 < host → r ≡ if_short host → r ≡ joined_fault (joined_names kind fields)
     unfolding pick
     long_host r l f = f ∙ sym (joined_is ∙ rw (lt-leb host 255 l))
 
-    pub short_host : (r : LineFault) (contact : ℕ) → host ≤ 255 → (contact ≡ contact_size kind) × (contact ≤ 11) → r ≡ if_short (contact + owner) → r ≡ joined_fault (joined_names kind (split_on 58 s))
+    pub short_host : (r : LineFault) (contact : ℕ) → host ≤ 255 → (contact ≡ contact_size kind) × (contact ≤ 11) → r ≡ if_short (contact + owner) → r ≡ joined_fault (joined_names kind fields)
     unfolding pick
     short_host r contact l c f = f ∙ sym (joined_is ∙ rw (le-leb host 255 l, ← c.0))
 
-pub field_bound : (s t : List ℕ) (i n : ℕ) → length s ≤ n → t ≡ field_at (split_on 58 s) i → length t ≤ n
-field_bound s t i n h e = rw e (field_short s i n h)
-
-pub ruleset joined_laws = (rules, nothing_joined, long_host, short_host, field_bound)
+pub ruleset joined_laws = (rules, nothing_joined, long_host, short_host)

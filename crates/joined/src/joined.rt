@@ -1,17 +1,16 @@
 // Names that are put together from fields, and the fault of one that is too long.
 ghost use Rattle.std.specs.Prelude.{◌≡◌, ◌≤◌, length};
-ghost use Rattle.rules.specs.Lists.{split_on};
+ghost use Rattle.rules.specs.Kinds.{field_at};
 ghost use Rattle.rules.specs.Names.{wire_of};
 ghost use Rattle.rules.specs.Records.{joined_names};
 ghost use Rattle.rules.specs.Answers.{joined_fault};
-ghost use Rattle.splits.specs.Splits.{FieldsOf};
 ghost use Rattle.joined.specs.Joined.{middle_size, contact_size, host_size, if_short};
 
 use judged_names::judged::judge_name;
 use pieces::pieces::has_byte;
 use rules::faults::{Fault, FieldKind, LineFault};
 use rules::kinds::Kind;
-use splits::splits::{Span, field};
+use splits::splits::Fields;
 
 // The size of a name on the wire, 0 if the text is none.
 fn name_size(text: &[u8]) -> usize
@@ -66,9 +65,9 @@ fn if_short(size: usize) -> LineFault
 }
 
 // The host's name, and then the contact's.
-pub fn joined_fault(rest: &[u8], spans: [Span; 11], kind: Kind) -> LineFault
-    requires { FieldsOf rest.now spans × (length rest.now ≤ 1024) }
-    ensures { result ≡ joined_fault (joined_names kind (split_on 58 rest.now)) }
+pub fn joined_fault(fields: &Fields, kind: Kind) -> LineFault
+    requires { length (field_at fields.now 2) ≤ 1024 }
+    ensures { result ≡ joined_fault (joined_names kind fields.now) }
 {
     let middle = middle_size(kind);
     if middle == 0 {
@@ -77,8 +76,8 @@ pub fn joined_fault(rest: &[u8], spans: [Span; 11], kind: Kind) -> LineFault
             field: 0,
         };
     }
-    let owner = name_size(field(rest, spans, 0));
-    let host = host_size(field(rest, spans, 2), middle, owner);
+    let owner = name_size(fields.field(0));
+    let host = host_size(fields.field(2), middle, owner);
     if 255 < host {
         return if_short(host);
     }

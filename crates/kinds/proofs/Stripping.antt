@@ -2,12 +2,14 @@
 use mathlib.Core.Path.{◌≡◌, refl, ap, ◌∙◌, sym}
 use mathlib.Core.Bool.{Bool, true, false}
 use mathlib.Core.List.{List, [], ◌∷◌, ◌++◌}
+use mathlib.Core.Logic.{◌⊎◌, inl, inr}
 use Prim.Native.Nat.{ℕ, suc, ◌-◌, ◌<◌, ◌≤◌, zero}
 use native.Mathlib.Omega.{arith}
 use borrow.Author.Rules.{rules}
 use borrow.Author.Tests.{ne_eqb}
 use lib.ListN.{length, get_or, take, drop}
-use lib.Seq.{take-suc, take-length}
+use lib.Seq.{take-suc, take-length, length-take-le}
+use Rattle.std.proofs.lemmas.List.{take-take, nil_from_length}
 use Rattle.rules.specs.Lists.{pick}
 use Rattle.rules.specs.Kinds.{blank, before_stripped, strip}
 use Rattle.kinds.specs.Strips.{IsStripped}
@@ -32,39 +34,51 @@ last_of s n h k =
     let e : n ≡ suc (n - 1) = omega arith in
     ap (λ (m : ℕ). take m s) e ∙ take-suc s (n - 1) 0 (omega arith)
 
-abbrev pub Same : List ℕ → ℕ → Type 0
-Same s n = strip (take n s) ≡ strip s
+-- what is left of the line, from its front, is all but blanks
+pub record Left (s left : List ℕ) : Type 0 where
+  pub front : left ≡ take (length left) s
+  pub most : length left ≤ length s
+  pub same : strip left ≡ strip s
 
-pub begin : (s : List ℕ) → Same s (length s)
-begin s = ap strip (take-length s)
+pub begin : (s : List ℕ) → Left s s
+begin s = record { front = sym (take-length s); most = omega arith; same = refl }
 
-module _ (s : List ℕ) (n : ℕ) (e : Same s n) (k : n ≤ length s) (h : 0 < n) where
-  blank_last : blank (get_or s (n - 1) 0) ≡ true → Same s (n - 1)
-  unfolding pick
-  blank_last b = sym (rw (last_of s n h k, strip_snoc (take (n - 1) s) (get_or s (n - 1) 0), b) refl) ∙ e
+module _ (s left : List ℕ) (e : Left s left) where
+  module _ (h : 0 < length left) where
+    ends : left ≡ take (length left - 1) left ++ (get_or left (length left - 1) 0 ∷ [])
+    ends = sym (take-length left) ∙ last_of left (length left) h (omega arith)
 
-  pub space : get_or s (n - 1) 0 ≡ 32 → Same s (n - 1)
-  unfolding blank
-  space b = blank_last (rw b)
+    pub fewer : length (take (length left - 1) left) ≡ length left - 1
+    fewer = length-take-le (length left - 1) left (omega arith)
 
-  pub tab : get_or s (n - 1) 0 ≡ 9 → Same s (n - 1)
-  unfolding blank
-  tab b = blank_last (rw b)
+    dropped : blank (get_or left (length left - 1) 0) ≡ true → Left s (take (length left - 1) left)
+    unfolding pick
+    dropped b =
+        let q : strip left ≡ strip (take (length left - 1) left) = ap strip ends ∙ strip_snoc (take (length left - 1) left) (get_or left (length left - 1) 0) ∙ rw b in record {
+          front = rw fewer (ap (λ (l : List ℕ). take (length left - 1) l) e.front ∙ take-take (length left - 1) (length left) s (omega arith));
+          most = rw fewer (omega (arith, e.most));
+          same = sym q ∙ e.same;
+        }
 
-  pub kept : (get_or s (n - 1) 0 ≡ 32 → ⊥) → (get_or s (n - 1) 0 ≡ 9 → ⊥) → IsStripped s n
-  unfolding blank pick
-  kept a b = record {
-    most = k;
-    left = last_of s n h k ∙ sym (sym e ∙ rw (last_of s n h k, strip_snoc (take (n - 1) s) (get_or s (n - 1) 0), ne_eqb _ _ a, ne_eqb _ _ b) refl);
-  }
+    pub dropped_one : (get_or left (length left - 1) 0 ≡ 32) ⊎ (get_or left (length left - 1) 0 ≡ 9) → Left s (take (length left - 1) left)
+    unfolding blank
+    dropped_one (inl b) = dropped (rw b)
+    dropped_one (inr b) = dropped (rw b)
 
-pub nothing : (s : List ℕ) (n : ℕ) → Same s n → n ≤ 0 → IsStripped s n
-unfolding strip
-nothing s n e h =
-    let z : n ≡ 0 = omega arith in
-    rw z (record { most = omega arith; left = rw z at e })
+    pub kept : (get_or left (length left - 1) 0 ≡ 32 → ⊥) → (get_or left (length left - 1) 0 ≡ 9 → ⊥) → IsStripped s (length left)
+    unfolding blank pick
+    kept a b = record {
+      most = e.most;
+      left = sym e.front ∙ ends ∙ sym (sym e.same ∙ ap strip ends ∙ rw (strip_snoc (take (length left - 1) left) (get_or left (length left - 1) 0), ne_eqb _ _ a, ne_eqb _ _ b) refl);
+    }
 
-pub ruleset strip_laws = (rules, begin, space, tab, kept, nothing)
+  pub nothing : length left < 1 → IsStripped s (length left)
+  unfolding strip
+  nothing h =
+      let z : left ≡ [] = nil_from_length left (omega arith) in
+      record { most = e.most; left = sym e.front ∙ z ∙ rw z at e.same }
+
+pub ruleset strip_laws = (rules, begin, fewer, dropped_one, kept, nothing)
 
 -- ---- a line
 

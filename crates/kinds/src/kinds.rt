@@ -5,31 +5,31 @@ ghost use Rattle.rules.specs.Kinds.{ignored, kind_of};
 use rules::kinds::Kind;
 
 // A comment, or a line that is switched off.
+#[tactic(auto, using(wire::proofs::Steps::tests), unfolding(rules::specs::Kinds::ignored))]
 pub fn is_ignored(b: u8) -> bool
     ensures { result ≡ ignored b }
 {
-    if b == 35 {
-        return true;
-    }
-    b == 45
+    matches!(b, b'#' | b'-')
 }
 
+// `rules` has the type, and the library `From`: so no impl of it can stand here.
+#[tactic(auto, using(wire::proofs::Steps::tests), unfolding(rules::specs::Kinds::kind_of, rules::specs::Lists::pick))]
 pub fn kind_of(b: u8) -> Kind
     ensures { result ≡ kind_of b }
 {
     match b {
-        37 => Kind::Location,
-        46 => Kind::Zone,
-        38 => Kind::Delegation,
-        61 => Kind::Host,
-        43 => Kind::Alias,
-        64 => Kind::Mail,
-        83 => Kind::Service,
-        39 => Kind::Text,
-        94 => Kind::Pointer,
-        67 => Kind::Canonical,
-        90 => Kind::Authority,
-        58 => Kind::Generic,
+        b'%' => Kind::Location,
+        b'.' => Kind::Zone,
+        b'&' => Kind::Delegation,
+        b'=' => Kind::Host,
+        b'+' => Kind::Alias,
+        b'@' => Kind::Mail,
+        b'S' => Kind::Service,
+        b'\'' => Kind::Text,
+        b'^' => Kind::Pointer,
+        b'C' => Kind::Canonical,
+        b'Z' => Kind::Authority,
+        b':' => Kind::Generic,
         _ => Kind::Unknown,
     }
 }

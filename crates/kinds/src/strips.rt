@@ -5,18 +5,9 @@ ghost use Rattle.kinds.specs.Strips.{IsStripped};
 pub fn stripped(line: &[u8]) -> usize
     ensures { IsStripped line.now result }
 {
-    let mut n = line.len();
-    while 0 < n {
-        let last = line[n - 1];
-        if last == 32 {
-            n -= 1;
-        } else {
-            if last == 9 {
-                n -= 1;
-            } else {
-                return n;
-            }
-        }
+    let mut left = line;
+    while let [rest @ .., b' ' | b'\t'] = left {
+        left = rest;
     }
-    n
+    left.len()
 }

@@ -4,24 +4,17 @@ ghost use Rattle.rules.specs.Reading.{reply_number, outcome_number};
 
 use rules::replies::{AskFault, Outcome, Reply};
 
-// The number of a reply.
+// The number of a reply. It is a function since neither `From` nor its types are this crate's.
 pub fn reply_number(reply: Reply) -> u64
     ensures { result ≡ reply_number reply }
 {
     match reply {
-        Reply::Found {
-            rtype: _,
-            lifetime: _,
-            place: _,
-            length: _,
-        } => 0,
+        Reply::Found { .. } => 0,
         Reply::NoMore => 18,
-        Reply::Refused(fault) => match fault {
-            AskFault::Name => 15,
-            AskFault::Moment => 16,
-            AskFault::Client => 17,
-            AskFault::Records => 14,
-        },
+        Reply::Refused(AskFault::Name) => 15,
+        Reply::Refused(AskFault::Moment) => 16,
+        Reply::Refused(AskFault::Client) => 17,
+        Reply::Refused(AskFault::Records) => 14,
     }
 }
 

@@ -8,7 +8,7 @@ ghost use Rattle.heads.specs.Head.{head_size};
 
 use buffer::put::put_bytes;
 use heads::heads::put_head;
-use integers::integers::put_u32;
+use integers::integers::put_each_be;
 use rules::quantities::Shared;
 
 // The numbers of an SOA record, in the order of its data.
@@ -21,23 +21,19 @@ pub struct SoaNumbers {
     pub minimum: u32,
 }
 
-fn put_two_u32(out: &mut [u8], first: u32, second: u32) -> usize
-    requires { 8 ≤ length out.old }
-    ensures put { IsPut (be 4 first ++ be 4 second) out.old out.new result }
-    ensures value { result ≡ 8 }
-{
-    let used = put_u32(out, first);
-    used + put_u32(&mut out[used..], second)
-}
-
 fn put_soa_numbers(out: &mut [u8], numbers: SoaNumbers) -> usize
     requires { 20 ≤ length out.old }
     ensures put { IsPut (be 4 numbers.serial ++ be 4 numbers.refresh ++ be 4 numbers.retry ++ be 4 numbers.expire ++ be 4 numbers.minimum) out.old out.new result }
     ensures value { result ≡ 20 }
 {
-    let a = put_two_u32(out, numbers.serial, numbers.refresh);
-    let b = a + put_two_u32(&mut out[a..], numbers.retry, numbers.expire);
-    b + put_u32(&mut out[b..], numbers.minimum)
+    let SoaNumbers {
+        serial,
+        refresh,
+        retry,
+        expire,
+        minimum,
+    } = numbers;
+    put_each_be(out, &[serial, refresh, retry, expire, minimum])
 }
 
 fn put_soa_data(out: &mut [u8], mname: &[u8], rname: &[u8], numbers: SoaNumbers) -> usize

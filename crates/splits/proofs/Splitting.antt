@@ -9,17 +9,18 @@ use borrow.Author.Tests.{eq-eqb, ne_eqb, le-leb, lt-leb}
 use lib.Dec.{leb, eqb}
 use lib.ListN.{length, get_or, take, drop, set, replicate, length-append, length-map, length-set, length-drop, drop_of_length-le, get_or-map}
 use lib.Seq.{drop-drop, drop-set-lt, take-suc, get_or-drop, append_snoc, length-take-le}
+use Rattle.std.specs.Prelude.{Option, Some, None}
 use Rattle.rules.specs.Lists.{pick, onto_first, split_on}
 use Rattle.rules.specs.Kinds.{field_count, field_at}
 use Rattle.rules.proofs.Lists.{All, nil, cons}
 use Rattle.wire.proofs.Steps.{left_at, take_put}
 use Rattle.rules.specs.declared.kinds.Kind.{Kind}
-use Rattle.rows.specs.Rows.{row_of}
+use Rattle.rows.specs.Rows.{IsRow}
 use Rattle.rows.specs.declared.rows.Row.{Row}
 use Rattle.rows.proofs.Table.{count_most}
 use Rattle.splits.specs.declared.splits.Span.{Span}
-use Rattle.splits.specs.declared.splits.Parted.{Parted}
-use Rattle.splits.specs.Splits.{empty_span, span_text, Inside, FieldsOf, IsParted, IsSplit}
+use Rattle.splits.specs.Few.{if_few}
+use Rattle.splits.specs.Splits.{empty_span, span_text, Inside, FieldsOf}
 
 -- ---- general
 
@@ -120,7 +121,7 @@ pub begin : (s : List ℕ) → Going s (replicate 11 empty_span) 0 0 0
 unfolding span_text Going
 begin s = record { pieces = sym (glue_none (split_on 58 s) (split_some 58 s)); behind = refl; inside = inside_none (length s) 11 }
 
-module _ (s : List ℕ) (spans : List Span) (count start i most : ℕ) (going : Going s spans count start i) (long : length spans ≡ 11) (few : count < most) (top : most ≤ 11) (h : start ≤ i) where
+module _ (s : List ℕ) (spans : List Span) (count start i most : ℕ) (going : Going s spans count start i) (long : length spans ≡ 11) (few : count ≤ most) (top : most ≤ 11) (h : start ≤ i) where
   g : State s spans count start i
   unfolding Going
   g = going
@@ -135,22 +136,22 @@ module _ (s : List ℕ) (spans : List Span) (count start i most : ℕ) (going : 
   done_long = length-take-le count (texts s spans) (omega (arith, texts_long))
 
   -- a span stored behind those that are done
-  put_behind : drop (count + 1) (texts s (set spans count span)) ≡ replicate (11 - (count + 1)) []
-  put_behind =
+  put_behind : count < most → drop (count + 1) (texts s (set spans count span)) ≡ replicate (11 - (count + 1)) []
+  put_behind m =
       let e : 11 - count ≡ suc (11 - (count + 1)) = omega arith in
       rw (map_set (span_text s) spans count span, drop-set-lt (count + 1) (texts s spans) count (span_text s span) (omega arith), ← (drop-drop 1 count (texts s spans)), g.behind, e)
 
-  put_done : take (count + 1) (texts s (set spans count span)) ≡ take count (texts s spans) ++ (span_text s span ∷ [])
-  put_done = rw (map_set (span_text s) spans count span) (take_put (texts s spans) count (span_text s span) (omega (arith, texts_long)))
+  put_done : count < most → take (count + 1) (texts s (set spans count span)) ≡ take count (texts s spans) ++ (span_text s span ∷ [])
+  put_done m = rw (map_set (span_text s) spans count span) (take_put (texts s spans) count (span_text s span) (omega (arith, texts_long)))
 
-  pub colon : i < length s → get_or s i 0 ≡ 58 → Going s (set spans count span) (count + 1) (i + 1) (i + 1)
+  pub colon : i < length s → get_or s i 0 ≡ 58 → count < most → Going s (set spans count span) (count + 1) (i + 1) (i + 1)
   unfolding split_on pick Going
-  colon l b = record {
+  colon l b m = record {
     pieces =
         g.pieces
-        ∙ rw (left_at s i l, eq-eqb _ _ b, put_done, span_none)
+        ∙ rw (left_at s i l, eq-eqb _ _ b, put_done m, span_none)
         (glue_colon (take count (texts s spans)) (span_text s span) (split_on 58 (drop (i + 1) s)) (split_some 58 (drop (i + 1) s)));
-    behind = put_behind;
+    behind = put_behind m;
     inside = all_set count span g.inside (h, omega arith);
   }
 
@@ -162,42 +163,52 @@ module _ (s : List ℕ) (spans : List Span) (count start i most : ℕ) (going : 
     inside = g.inside;
   }
 
-  pub full : i < length s → get_or s i 0 ≡ 58 → most ≤ count + 1 → false ≡ leb (length (split_on 58 s)) most
+  none_of : (n : ℕ) → most ≡ n → most < length (split_on 58 s) → None ≡ if_few n (split_on 58 s)
+  unfolding if_few pick
+  none_of n e m = rw (← e, lt-leb (length (split_on 58 s)) most m)
+
+  pub full : (n : ℕ) → most ≡ n → i < length s → get_or s i 0 ≡ 58 → most ≤ count → None ≡ if_few n (split_on 58 s)
   unfolding split_on pick glue
-  full l b m =
+  full n k l b m =
       let e : split_on 58 s ≡ take count (texts s spans) ++ ((span_text s span ++ []) ∷ split_on 58 (drop (i + 1) s)) = g.pieces ∙ rw (left_at s i l, eq-eqb _ _ b) in
-      sym (lt-leb (length (split_on 58 s)) most (omega (arith, ap length e ∙ length-append (take count (texts s spans)) _, done_long, split_some 58 (drop (i + 1) s))))
+      none_of n k (omega (arith, ap length e ∙ length-append (take count (texts s spans)) _, done_long, split_some 58 (drop (i + 1) s)))
 
   -- the last piece is what is being read
   end_pieces : length s ≤ i → split_on 58 s ≡ take count (texts s spans) ++ (span_text s span ∷ [])
   unfolding split_on glue
   end_pieces l = g.pieces ∙ rw (drop_of_length-le s l, append-nil)
 
-  pub end_fits : length s ≤ i → true ≡ leb (length (split_on 58 s)) most
-  end_fits l = sym (le-leb (length (split_on 58 s)) most (omega (arith, ap length (end_pieces l) ∙ length-append (take count (texts s spans)) _, done_long)))
+  end_long : length s ≤ i → length (split_on 58 s) ≡ count + 1
+  end_long l = omega (arith, ap length (end_pieces l) ∙ length-append (take count (texts s spans)) _, done_long)
 
-  field_at_lem : length s ≤ i → (j : ℕ) → get_or (texts s (set spans count span)) j [] ≡ field_at (split_on 58 s) j
+  pub end_full : (n : ℕ) → most ≡ n → length s ≤ i → most ≤ count → None ≡ if_few n (split_on 58 s)
+  end_full n k l m = none_of n k (omega (arith, end_long l))
+
+  pub end_few : (n : ℕ) → most ≡ n → length s ≤ i → count < most → Some (split_on 58 s) ≡ if_few n (split_on 58 s)
+  unfolding if_few pick
+  end_few n k l m = rw (← k, le-leb (length (split_on 58 s)) most (omega (arith, end_long l)))
+
+  field_at_lem : length s ≤ i → count < most → (j : ℕ) → get_or (texts s (set spans count span)) j [] ≡ field_at (split_on 58 s) j
   unfolding field_at
-  field_at_lem l j = rw (end_pieces l, ← put_done) (sym (blank_behind (count + 1) (11 - (count + 1)) (texts s (set spans count span)) put_behind j))
+  field_at_lem l m j = rw (end_pieces l, ← (put_done m)) (sym (blank_behind (count + 1) (11 - (count + 1)) (texts s (set spans count span)) (put_behind m) j))
 
-  pub end_fields : length s ≤ i → i ≤ length s → FieldsOf s (set spans count (record { 0 = start; 1 = length s }))
+  pub end_fields : length s ≤ i → i ≤ length s → count < most → FieldsOf s (set spans count (record { 0 = start; 1 = length s }))
   unfolding span_text
-  end_fields l k =
+  end_fields l k m =
       let q : length s ≡ i = omega arith in
       rw q (record {
         long = length-set spans count span ∙ long;
         inside = all_set count span g.inside (h, k);
-        texts = λ j m. sym (get_or-map (span_text s) (set spans count span) j empty_span) ∙ field_at_lem l j;
+        texts = λ j m'. sym (get_or-map (span_text s) (set spans count span) j empty_span) ∙ field_at_lem l m j;
       })
 
--- the two ways out
-pub not_fitting : (s : List ℕ) (most : ℕ) (spans : List Span) → false ≡ leb (length (split_on 58 s)) most → IsParted s most (record { spans = spans; fits = false })
-not_fitting s most spans e = record { says = e; each = λ q. absurd (let z : ◌≡◌ {A = ℕ} 0 1 = cc in omega arith) }
+pub few_fields : (kind : Kind) (row : Row) → IsRow kind row → row.count ≤ 11
+few_fields kind row e = omega (arith, e.count, count_most kind)
 
-pub fitting : (s : List ℕ) (most : ℕ) (spans : List Span) → true ≡ leb (length (split_on 58 s)) most → FieldsOf s spans → IsParted s most (record { spans = spans; fits = true })
-fitting s most spans e f = record { says = e; each = λ q. f }
+pub counted : (kind : Kind) (row : Row) → IsRow kind row → row.count ≡ field_count kind
+counted kind row e = e.count
 
-pub ruleset parted_laws = (rules, begin, colon, other, full, end_fits, end_fields, not_fitting, fitting)
+pub ruleset split_laws = (rules, begin, colon, other, full, end_full, end_few, end_fields, few_fields, counted)
 
 -- ---- a field's text
 
@@ -211,31 +222,9 @@ module _ (s : List ℕ) (spans : List Span) (i : ℕ) (f : FieldsOf s spans) whe
   pub ends : (get_or spans i empty_span).1 ≤ length s
   ends = within.1
 
-  pub text : i < 11 → take ((get_or spans i empty_span).1 - (get_or spans i empty_span).0) (drop (get_or spans i empty_span).0 s) ≡ field_at (split_on 58 s) i
+  pub text : (fields : List (List ℕ)) → split_on 58 s ≡ fields → i < 11
+      → take ((get_or spans i empty_span).1 - (get_or spans i empty_span).0) (drop (get_or spans i empty_span).0 s) ≡ field_at fields i
   unfolding span_text
-  text h = f.texts i h
+  text fields e h = rw (← e) (f.texts i h)
 
 pub ruleset field_laws = (rules, starts, ends, text)
-
--- ---- by kind
-
-module _ (s : List ℕ) (kind : Kind) (row : Row) (e : row ≡ row_of kind) where
-  rows : row.count ≡ field_count kind
-  unfolding row_of
-  rows = ap (λ (r : Row). r.count) e
-
-  pub few_fields : row.count ≤ 11
-  few_fields = omega (arith, rows, count_most kind)
-
-  pub no_fields : (spans : List Span) → row.count ≡ 0 → IsSplit s kind (record { row = row; spans = spans; fits = false })
-  no_fields spans z =
-      record {
-        row = e;
-        says = sym (lt-leb (length (split_on 58 s)) (field_count kind) (omega (arith, rows, split_some 58 s)));
-        each = λ q. absurd (true≢false (sym q));
-      }
-
-  pub as_many : (r : Parted) → IsParted s row.count r → IsSplit s kind (record { row = row; spans = r.spans; fits = r.fits })
-  as_many r p = record { row = e; says = p.says ∙ rw rows; each = p.each }
-
-pub ruleset split_laws = (rules, few_fields, no_fields, as_many)

@@ -1,13 +1,9 @@
 -- The fields of a line as an array of pairs.
-use Rattle.std.specs.Prelude.{◌≡◌, true, List, ℕ, ◌-◌, ◌≤◌, ◌<◌, length, take, drop, get_or, leb}
+use Rattle.std.specs.Prelude.{◌≡◌, List, ℕ, ◌-◌, ◌≤◌, ◌<◌, length, take, drop, get_or}
 use Rattle.rules.specs.Lists.{split_on}
-use Rattle.rules.specs.Kinds.{field_count, field_at}
+use Rattle.rules.specs.Kinds.{field_at}
 use Rattle.rules.proofs.Lists.{All}
-use Rattle.rules.specs.declared.kinds.Kind.{Kind}
-use Rattle.rows.specs.Rows.{row_of}
 use Rattle.splits.specs.declared.splits.Span.{Span}
-use Rattle.splits.specs.declared.splits.Parted.{Parted}
-use Rattle.splits.specs.declared.splits.Fields.{Fields}
 
 abbrev pub empty_span : Span
 empty_span = record { 0 = 0; 1 = 0 }
@@ -24,12 +20,3 @@ pub record FieldsOf (s : List ℕ) (spans : List Span) : Type 0 where
   pub long : length spans ≡ 11
   pub inside : All (Inside (length s)) spans
   pub texts : (i : ℕ) → i < 11 → span_text s (get_or spans i empty_span) ≡ field_at (split_on 58 s) i
-
-pub record IsParted (s : List ℕ) (most : ℕ) (r : Parted) : Type 0 where
-  pub says : r.fits ≡ leb (length (split_on 58 s)) most
-  pub each : r.fits ≡ true → FieldsOf s r.spans
-
-pub record IsSplit (s : List ℕ) (kind : Kind) (r : Fields) : Type 0 where
-  pub row : r.row ≡ row_of kind
-  pub says : r.fits ≡ leb (length (split_on 58 s)) (field_count kind)
-  pub each : r.fits ≡ true → FieldsOf s r.spans

@@ -7,7 +7,7 @@ ghost use Rattle.heads.specs.Head.{head_size};
 
 use buffer::put::put_bytes;
 use heads::heads::put_head;
-use integers::integers::put_u16;
+use integers::integers::put_each_be;
 use rules::quantities::{Port, Priority, Shared, Weight};
 
 fn put_srv_data(
@@ -21,10 +21,8 @@ fn put_srv_data(
     ensures put { IsPut (srv_data priority weight port host.now) out.old out.new result }
     ensures value { result ≡ 6 + length host.now }
 {
-    let a = put_u16(out, priority.0);
-    let b = a + put_u16(&mut out[a..], weight.0);
-    let c = b + put_u16(&mut out[b..], port.0);
-    c + put_bytes(&mut out[c..], host)
+    let used = put_each_be(out, &[priority.0, weight.0, port.0]);
+    used + put_bytes(&mut out[used..], host)
 }
 
 pub fn put_srv(

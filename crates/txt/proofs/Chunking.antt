@@ -2,20 +2,23 @@
 use mathlib.Core.Path.{◌≡◌, refl, ap, ◌∙◌, sym}
 use mathlib.Core.Bool.{Bool, true, false}
 use mathlib.Core.List.{List, [], ◌∷◌, ◌++◌, append-nil, append_assoc}
-use Prim.Native.Nat.{ℕ, zero, suc, ◌+◌, ◌-◌, ◌/◌, ◌<◌, ◌≤◌}
+use Prim.Native.Nat.{ℕ, zero, suc, ◌+◌, ◌/◌, ◌<◌, ◌≤◌}
 use native.Mathlib.Omega.{arith}
 use borrow.Author.Rules.{rules}
-use borrow.Author.Tests.{lt-ltb, le-ltb, le-leb, lt-leb, ltb-true, ltb-false, leb-true, leb-false}
-use lib.Dec.{leb, ltb}
-use lib.ListN.{length, take, drop, length-append, length-drop, drop_of_length-le}
-use lib.Seq.{take_all, length-take-le, drop-drop}
+use borrow.Author.Tests.{le-leb, lt-leb, leb-true, leb-false}
+use lib.Dec.{leb}
+use lib.ListN.{length, take, drop, length-append, length-drop}
+use lib.Seq.{length-take-le, take_at, drop_at}
+use Rattle.std.proofs.lemmas.Bool.{cases_lt}
+use Rattle.std.proofs.lemmas.List.{nil_from_length}
+use mathlib.Core.Logic.{inl, inr}
+use Rattle.std.proofs.Common.{min}
 use Rattle.rules.specs.Lists.{pick}
 use Rattle.rules.specs.Records.{chunks_from, chunks}
 use Rattle.buffer.specs.Put.{IsPut}
 use Rattle.wire.proofs.Fuel.{enough}
 use Rattle.wire.proofs.Parts.{lent_at, back_at, tail_lent}
-use Rattle.buffer.proofs.Puts.{Run, run_none, run_front, run_more, run_length, run_whole}
-use Rattle.txt.specs.Chunks.{chunk_size}
+use Rattle.buffer.proofs.Puts.{Run, run_none, run_front, run_more, run_whole, put_length, within}
 
 none_left : (fuel : ℕ) → chunks_from fuel [] ≡ []
 unfolding chunks_from
@@ -50,27 +53,21 @@ chunks_more (b ∷ t) h =
     let rest = drop 127 (b ∷ t) in
     rw (lt-leb (length (b ∷ t)) 127 h, enough chunks_from onto (drop 127) [] none_left front shorter (length t) (length rest) rest (shorter b t) (omega arith))
 
-pub whole_chunk : (n : ℕ) → 127 < n → 127 ≡ chunk_size n
-unfolding chunk_size pick
-whole_chunk n h = rw (lt-ltb 127 n h)
-
-pub last_chunk : (n : ℕ) → n ≤ 127 → n ≡ chunk_size n
-unfolding chunk_size pick
-last_chunk n h = rw (le-ltb 127 n h)
-
--- both in one: the first chunk and the rest
-pub chunks_step : (t : List ℕ) (k : ℕ) → 0 < length t → k ≡ chunk_size (length t) → chunks t ≡ (k ∷ take k t) ++ chunks (drop k t)
-unfolding chunk_size pick
-chunks_step t k h e = go (ltb 127 (length t)) refl e
-  where
-    go : (b : Bool) → ltb 127 (length t) ≡ b → k ≡ pick b 127 (length t) → chunks t ≡ (k ∷ take k t) ++ chunks (drop k t)
-    go true q w = rw w (chunks_more t (ltb-true _ _ q))
-    go false q w =
-        let l : length t ≤ 127 = ltb-false _ _ q in
-        let n : k ≡ length t = w in
-        let a : take k t ≡ t = take_all k t (omega arith) in
-        let z : drop k t ≡ [] = drop_of_length-le t {i = k} (omega arith) in
-        rw (a, z, chunks_none, append-nil (k ∷ t), n) (chunks_last t h l)
+-- both in one: a first chunk, as the library cuts it, and the others
+first_chunk : (t x rest : List ℕ) → t ≡ x ++ rest → length x ≡ min 127 (length t) → 0 < length t → chunks t ≡ (length x ∷ x) ++ chunks rest
+first_chunk t x rest parts long some = elim (cases_lt 127 (length t)) [
+  | inl more ↦
+      let k : length x ≡ 127 = omega arith in
+      let a : take 127 t ≡ x = rw parts (take_at x rest 127 k) in
+      let b : drop 127 t ≡ rest = rw parts (drop_at x rest 127 k) in
+      rw (k, ← a, ← b) (chunks_more t more)
+  | inr few ↦
+      let k : length x ≡ length t = omega arith in
+      let n : length rest ≡ 0 = omega (arith, ap length parts, length-append x rest) in
+      let z : rest ≡ [] = nil_from_length rest n in
+      let q : t ≡ x = parts ∙ rw z (append-nil x) in
+      rw (z, chunks_none, append-nil x, ← q) (chunks_last t some few)
+]
 
 length_from : (f : ℕ) (t : List ℕ) → length t ≤ f → length (chunks_from f t) ≡ length t + (length t + 126) / 127
 unfolding chunks_from pick
@@ -93,47 +90,54 @@ pub chunks_length : (t : List ℕ) → length t + (length t + 126) / 127 ≡ len
 unfolding chunks
 chunks_length t = sym (length_from (length t) t (omega arith))
 
--- the chunk of s from i on, of k bytes
-abbrev pub piece : List ℕ → ℕ → ℕ → List ℕ
-piece s i k = take (i + k - i) (drop i s)
+-- the loop: what is put, and the chunks of what is left behind it, are those of the text
+pub record Going (text d out : List ℕ) (used size : ℕ) (left : List ℕ) : Type 0 where
+  pub size_is : size ≡ 127
+  pub room : used + length (chunks left) ≤ length d
+  pub run : Run d out used
+  pub whole : take used out ++ chunks left ≡ chunks text
 
-module _ (s : List ℕ) (i k : ℕ) (m : k ≤ length s - i) where
-  piece_length : length (piece s i k) ≡ k
-  piece_length = length-take-le (i + k - i) (drop i s) (omega (arith, length-drop i s)) ∙ omega arith
+pub begin : (text d : List ℕ) (size : ℕ) (left : List ℕ) → size ≡ 127 → left ≡ text → length (chunks text) ≤ length d → Going text d d 0 size left
+begin text d size left e q h = record { size_is = e; room = rw q (omega arith); run = run_none d; whole = rw q }
 
-  pub piece_small : k ≤ 127 → length (piece s i k) ≤ 127
-  piece_small l = omega (arith, piece_length)
+module _ (text d out : List ℕ) (used size : ℕ) (left : List ℕ) (e : Going text d out used size left) where
+  pub starts : used ≤ length out
+  starts = within (take used out) d out used e.run
 
-  -- a turn of the loop
-  module _ (h : i < length s) (q : k ≡ chunk_size (length s - i)) where
-    turn : chunks (drop i s) ≡ (length (piece s i k) ∷ piece s i k) ++ chunks (drop (i + k) s)
-    turn =
-        let l : length (drop i s) ≡ length s - i = length-drop i s in
-        let e : i + k - i ≡ k = omega arith in
-        rw (piece_length, e, ← (drop-drop k i s)) (chunks_step (drop i s) k (omega arith) (rw l q))
+  module _ (x rest : List ℕ) (parts : left ≡ x ++ rest) (long : length x ≡ min size (length left)) (some : 0 < length left) where
+    pub small : length x ≤ 127
+    small = omega (arith, e.size_is)
 
-    turn_length : length (chunks (drop i s)) ≡ 1 + length (piece s i k) + length (chunks (drop (i + k) s))
-    turn_length = ap length turn ∙ length-append (length (piece s i k) ∷ piece s i k) (chunks (drop (i + k) s)) ∙ omega arith
+    turn : chunks left ≡ (length x ∷ x) ++ chunks rest
+    turn = first_chunk left x rest parts (rw e.size_is at long) some
 
-    pub chunk_room : (d out : List ℕ) (used : ℕ) → used + length (chunks (drop i s)) ≤ length d → length out ≡ length d → 1 + length (piece s i k) ≤ length (lent_at used out)
-    chunk_room d out used r e = simp (tail_lent, length-drop) (omega (arith, turn_length))
+    turn_length : length (chunks left) ≡ 1 + length x + length (chunks rest)
+    turn_length = ap length turn ∙ length-append (length x ∷ x) (chunks rest) ∙ omega arith
 
-    pub room_more : (d : List ℕ) (used r : ℕ) → used + length (chunks (drop i s)) ≤ length d → r ≡ 1 + length (piece s i k) → used + r + length (chunks (drop (i + k) s)) ≤ length d
-    room_more d used r e c = omega (arith, turn_length)
+    pub chunk_room : 1 + length x ≤ length (lent_at used out)
+    chunk_room = simp (tail_lent, length-drop) (omega (arith, turn_length, e.room, put_length (take used out) d out used e.run))
 
-    module _ (d out f : List ℕ) (used r : ℕ) (run : Run d out used) (p : IsPut (length (piece s i k) ∷ piece s i k) (lent_at used out) f r) where
-      pub front_more : take used out ++ chunks (drop i s) ≡ chunks s → take (used + r) (back_at used out f) ++ chunks (drop (i + k) s) ≡ chunks s
-      front_more g =
-          rw (
-            run_front d out used run (length (piece s i k) ∷ piece s i k) f r p,
-            append_assoc (take used out) (length (piece s i k) ∷ piece s i k) (chunks (drop (i + k) s)),
-            ← turn,
-          ) g
+    pub sum_within : (r : ℕ) → r ≡ 1 + length x → used + r ≤ length d
+    sum_within r c = omega (arith, turn_length, e.room)
 
-pub chunks_all : (s d out : List ℕ) (i used : ℕ) → length s ≤ i → Run d out used → take used out ++ chunks (drop i s) ≡ chunks s → IsPut (chunks s) d out used
-chunks_all s d out i used h run g = run_whole (chunks s) d out used run (rw (drop_of_length-le s h, chunks_none) at g)
+    pub next : (f : List ℕ) (r size' : ℕ) → IsPut (length x ∷ x) (lent_at used out) f r → size' ≡ size → Going text d (back_at used out f) (used + r) size' rest
+    next f r size' p q = record {
+      size_is = q ∙ e.size_is;
+      room = omega (arith, turn_length, e.room, p.count);
+      run = run_more d out used e.run (length x ∷ x) f r p;
+      whole = rw (
+        run_front d out used e.run (length x ∷ x) f r p,
+        append_assoc (take used out) (length x ∷ x) (chunks rest),
+        ← turn,
+      ) e.whole;
+    }
 
-pub chunks_count : (s d out : List ℕ) (i used : ℕ) → length s ≤ i → Run d out used → take used out ++ chunks (drop i s) ≡ chunks s → used ≡ length (chunks s)
-chunks_count s d out i used h run g = (chunks_all s d out i used h run g).count
+  pub chunks_all : length left ≡ 0 → IsPut (chunks text) d out used
+  chunks_all h =
+      let z : left ≡ [] = nil_from_length left h in
+      run_whole (chunks text) d out used e.run (rw (z, chunks_none) at e.whole)
 
-pub ruleset chunk_laws = (rules, run_none, piece_small, chunk_room, room_more, front_more, run_more, run_length, chunks_all, chunks_count)
+  pub chunks_count : length left ≡ 0 → used ≡ length (chunks text)
+  chunks_count h = (chunks_all h).count
+
+pub ruleset chunk_laws = (rules, begin, starts, small, chunk_room, sum_within, next, chunks_all, chunks_count)

@@ -1,8 +1,7 @@
 // A record of a text, in chunks of 127 bytes, each after its length.
-ghost use Rattle.std.specs.Prelude.{◌≡◌, ◌∷◌, ◌+◌, ◌<◌, ◌≤◌, length};
+ghost use Rattle.std.specs.Prelude.{◌≡◌, ◌∷◌, ◌+◌, ◌≤◌, length};
 ghost use Rattle.rules.specs.Records.{chunks, resource_of};
 ghost use Rattle.buffer.specs.Put.{IsPut};
-ghost use Rattle.txt.specs.Chunks.{chunk_size};
 ghost use Rattle.rules.specs.Bytes.{encode};
 ghost use Rattle.heads.specs.Head.{head_size};
 
@@ -10,19 +9,8 @@ use buffer::put::put_bytes;
 use heads::heads::put_head;
 use rules::quantities::Shared;
 
-// How many bytes the first chunk of a text has, of which so many are left.
-fn chunk_size(left: usize) -> usize
-    requires { 0 < left }
-    ensures value { result ≡ chunk_size left }
-    ensures result_nonzero { 0 < result }
-    ensures upper_bound { result ≤ left }
-    ensures upper_bound_2 { result ≤ 127 }
-{
-    if 127 < left {
-        return 127;
-    }
-    left
-}
+// A chunk's length is a byte of its own.
+const CHUNK: usize = 127;
 
 fn put_chunk(out: &mut [u8], chunk: &[u8]) -> usize
     requires { (1 + length chunk.now ≤ length out.old) × (length chunk.now ≤ 127) }
@@ -38,8 +26,7 @@ fn chunks_size(text: &[u8]) -> usize
     requires { length text.now ≤ 1024 }
     ensures { result ≡ length (chunks text.now) }
 {
-    let n = text.len();
-    n + (n + 126) / 127
+    text.len() + text.len().div_ceil(CHUNK)
 }
 
 fn put_chunks(out: &mut [u8], text: &[u8]) -> usize
@@ -47,13 +34,9 @@ fn put_chunks(out: &mut [u8], text: &[u8]) -> usize
     ensures put { IsPut (chunks text.now) out.old out.new result }
     ensures value { result ≡ length (chunks text.now) }
 {
-    let n = text.len();
-    let mut used: usize = 0;
-    let mut i: usize = 0;
-    while i < n {
-        let end = i + chunk_size(n - i);
-        used += put_chunk(&mut out[used..], &text[i..end]);
-        i = end;
+    let mut used = 0;
+    for chunk in text.chunks(CHUNK) {
+        used += put_chunk(&mut out[used..], chunk);
     }
     used
 }

@@ -6,7 +6,6 @@ use Prim.Native.Nat.{ℕ, ◌≤◌}
 use native.Mathlib.Omega.{arith}
 use lib.Dec.{T}
 use lib.ListN.{length}
-use Rattle.rules.specs.Lists.{split_on}
 use Rattle.rules.specs.Kinds.{common, meanings, field_count, field_at}
 use Rattle.rules.specs.Names.{NameRead, named, misnamed, name_of}
 use Rattle.rules.specs.Fields.{name_fault, needed, fault_of}
@@ -17,8 +16,6 @@ use Rattle.rules.specs.declared.kinds.Kind.{Kind}
 use Rattle.rules.proofs.Lists.{All}
 use Rattle.rules.proofs.GoodLines.{FieldsDone, kind_done}
 use Rattle.names.specs.Views.{is_named}
-use Rattle.splits.specs.Splits.{FieldsOf}
-use Rattle.splits.specs.declared.splits.Span.{Span}
 use Rattle.values.specs.Ready.{Ready}
 
 pub named_done : (r : NameRead) → T (is_done (name_fault r)) → is_named r ≡ true
@@ -31,18 +28,15 @@ unfolding needed is_done
 needed_named [] d = absurd d
 needed_named (b ∷ t) d = named_done (name_of (b ∷ t)) d
 
-module _ (s : List ℕ) (spans : List Span) where
-  pub ready_fields : (kind : Kind) → Ready kind s spans → FieldsOf s spans
-  ready_fields kind r = r.fields
-
+module _ (fields : List (List ℕ)) where
   -- each field reads as its meaning
-  pub done : (kind : Kind) → Ready kind s spans → FieldsDone 0 (meanings kind) (split_on 58 s)
-  done kind r = (kind_done kind (split_on 58 s) r.good).0
+  pub done : (kind : Kind) → Ready kind fields → FieldsDone 0 (meanings kind) fields
+  done kind r = (kind_done kind fields r.good).0
 
-  pub joined_short : (kind : Kind) → Ready kind s spans → All (λ n. length n ≤ 255) (joined_names kind (split_on 58 s))
-  joined_short kind r = (kind_done kind (split_on 58 s) r.good).1
+  pub joined_short : (kind : Kind) → Ready kind fields → All (λ n. length n ≤ 255) (joined_names kind fields)
+  joined_short kind r = (kind_done kind fields r.good).1
 
-  pub owner_named : (kind : Kind) → Ready kind s spans → 3 ≤ field_count kind → is_named (name_of (field_at (split_on 58 s) 0)) ≡ true
+  pub owner_named : (kind : Kind) → Ready kind fields → 3 ≤ field_count kind → is_named (name_of (field_at fields 0)) ≡ true
   unfolding meanings common field_count fault_of
   owner_named Kind.Location r h = absurd (omega arith)
   owner_named Kind.Zone r h = named_done _ (done Kind.Zone r).0

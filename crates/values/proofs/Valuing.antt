@@ -1,10 +1,12 @@
 -- The laws of the values of fields.
 use mathlib.Core.Path.{◌≡◌, ap, ◌∙◌}
 use mathlib.Core.List.{List}
+use Rattle.std.specs.Prelude.{Option, Some, None}
+use Rattle.std.specs.Option.{unwrap_or}
 use Prim.Native.Nat.{ℕ, ◌-◌, ◌≤◌}
 use native.Mathlib.Omega.{arith}
 use borrow.Author.Rules.{rules}
-use Rattle.rules.specs.Lists.{value_or, split_on}
+use Rattle.rules.specs.Lists.{value_or}
 use Rattle.rules.specs.Kinds.{field_at, field_count, default_ttl}
 use Rattle.rules.specs.Fields.{number_of, time_of, lo_of, largest_ttl, largest_short, largest_long}
 use Rattle.rules.specs.Records.{number_or, short_at, long_at, shared_of}
@@ -13,31 +15,24 @@ use Rattle.rules.specs.declared.quantities.Lo.{Lo}
 use Rattle.rules.specs.declared.quantities.Moment.{Moment}
 use Rattle.rules.specs.declared.quantities.Ttl.{Ttl}
 use Rattle.rules.proofs.Fields.{number_most}
-use Rattle.numbers.specs.Views.{number_read}
 use Rattle.times.specs.Views.{time_read}
 use Rattle.codes.specs.Views.{lo_read}
-use Rattle.numbers.specs.declared.numbers.NumberRead.{NumberRead}
 use Rattle.times.specs.declared.times.TimeRead.{TimeRead}
 use Rattle.codes.specs.declared.codes.LoRead.{LoRead}
-use Rattle.rows.specs.Rows.{row_of}
+use Rattle.rows.specs.Rows.{IsRow}
 use Rattle.rows.specs.declared.rows.Row.{Row}
 use Rattle.rows.proofs.Table.{count_most}
 
 -- ---- a value, or its default
 
-module _ (t : List ℕ) (limit default : ℕ) (r : NumberRead) (e : number_read r ≡ number_of limit t) where
-  pub number_is : (n : ℕ) → r ≡ NumberRead.Good n → n ≡ number_or default limit t
-  unfolding number_or value_or
-  number_is n q = rw (← e, q)
+pub number_is : (t : List ℕ) (limit default n : ℕ) (r : Option ℕ) → r ≡ number_of limit t → n ≡ unwrap_or r default → default ≤ limit → (n ≡ number_or default limit t) × (n ≤ limit)
+unfolding number_or value_or
+number_is t limit default n None e u h = (rw (← e) u, omega (arith, u))
+number_is t limit default n (Some m) e u h =
+    let p : n ≡ number_or default limit t = rw (← e) u in
+    (p, omega (arith, p, number_most default limit t h))
 
-  pub number_not : r ≡ NumberRead.Bad → default ≡ number_or default limit t
-  unfolding number_or value_or
-  number_not q = rw (← e, q)
-
-  pub number_limit : (n : ℕ) → default ≤ limit → r ≡ NumberRead.Good n → n ≤ limit
-  number_limit n h q = omega (arith, number_is n q, number_most default limit t h)
-
-pub ruleset number_laws = (rules, number_is, number_not, number_limit)
+pub ruleset number_laws = (rules, number_is)
 
 module _ (t : List ℕ) (r : TimeRead) (e : time_read r ≡ time_of t) where
   pub time_is : (m : Moment) → r ≡ TimeRead.Good m → m.0 ≡ value_or 0 (time_of t)
@@ -61,23 +56,23 @@ pub ruleset code_laws = (rules, time_is, time_not, lo_is, lo_not)
 
 -- ---- a value of a field
 
-module _ (s t : List ℕ) (i : ℕ) (p : t ≡ field_at (split_on 58 s) i) where
-  pub short_field : (n : ℕ) → (n ≡ number_or 0 65535 t) × (n ≤ 65535) → n ≡ short_at (split_on 58 s) i
+module _ (fields : List (List ℕ)) (t : List ℕ) (i : ℕ) (p : t ≡ field_at fields i) where
+  pub short_field : (n : ℕ) → (n ≡ number_or 0 65535 t) × (n ≤ 65535) → n ≡ short_at fields i
   unfolding short_at largest_short
   short_field n e = e.0 ∙ rw p
 
-  pub long_field : (n default : ℕ) → (n ≡ number_or default 4294967295 t) × (n ≤ 4294967295) → n ≡ long_at default (split_on 58 s) i
+  pub long_field : (n default : ℕ) → (n ≡ number_or default 4294967295 t) × (n ≤ 4294967295) → n ≡ long_at default fields i
   unfolding long_at largest_long
   long_field n default e = e.0 ∙ rw p
 
-  pub ttl_field : (n default : ℕ) → (n ≡ number_or default 2147483647 t) × (n ≤ 2147483647) → n ≡ number_or default largest_ttl (field_at (split_on 58 s) i)
+  pub ttl_field : (n default : ℕ) → (n ≡ number_or default 2147483647 t) × (n ≤ 2147483647) → n ≡ number_or default largest_ttl (field_at fields i)
   unfolding largest_ttl
   ttl_field n default e = e.0 ∙ rw p
 
-  pub time_field : (n : ℕ) → n ≡ value_or 0 (time_of t) → n ≡ value_or 0 (time_of (field_at (split_on 58 s) i))
+  pub time_field : (n : ℕ) → n ≡ value_or 0 (time_of t) → n ≡ value_or 0 (time_of (field_at fields i))
   time_field n e = e ∙ rw p
 
-  pub lo_field : (code : Lo) → code ≡ value_or Lo.Every (lo_of t) → code ≡ value_or Lo.Every (lo_of (field_at (split_on 58 s) i))
+  pub lo_field : (code : Lo) → code ≡ value_or Lo.Every (lo_of t) → code ≡ value_or Lo.Every (lo_of (field_at fields i))
   lo_field code e = e ∙ rw p
 
 pub ruleset value_laws = (rules, short_field, long_field, ttl_field, time_field, lo_field)
@@ -100,37 +95,28 @@ default_most Kind.Authority = omega arith
 default_most Kind.Generic = omega arith
 default_most Kind.Unknown = omega arith
 
-module _ (kind : Kind) (row : Row) (e : row ≡ row_of kind) where
+module _ (kind : Kind) (row : Row) (e : IsRow kind row) where
   count_is : row.count ≡ field_count kind
-  unfolding row_of
-  count_is = ap (λ (r : Row). r.count) e
+  count_is = e.count
 
   ttl_is : row.ttl ≡ default_ttl kind
-  unfolding row_of
-  ttl_is = ap (λ (r : Row). r.ttl) e
+  ttl_is = e.ttl
 
   pub default_fits : row.ttl ≤ 2147483647
   default_fits = omega (arith, ttl_is, default_most kind)
 
-  pub some_fields : 3 ≤ field_count kind → 3 ≤ row.count
-  some_fields h = omega (arith, count_is)
+  -- the places of the last three fields
+  pub last_fields : 3 ≤ field_count kind → (3 ≤ row.count) × (row.count ≤ 11)
+  last_fields h = (omega (arith, count_is), omega (arith, count_is, count_most kind))
 
-  pub few_fields : row.count ≤ 11
-  few_fields = omega (arith, count_is, count_most kind)
-
-pub ruleset row_laws = (rules, default_fits, some_fields, few_fields)
-
-module _ (kind : Kind) (row : Row) (f : (row ≡ row_of kind) × (3 ≤ row.count) × (row.count ≤ 11) × (row.ttl ≤ 2147483647)) where
-  pub shared_is : (s : List ℕ) (ttl : Ttl) (time : Moment) (lo : Lo)
-      → ttl.0 ≡ number_or row.ttl largest_ttl (field_at (split_on 58 s) (row.count - 3))
-      → time.0 ≡ value_or 0 (time_of (field_at (split_on 58 s) (row.count - 2)))
-      → lo ≡ value_or Lo.Every (lo_of (field_at (split_on 58 s) (row.count - 1)))
-      → record { ttl = ttl; time = time; lo = lo } ≡ shared_of kind (split_on 58 s)
+  pub shared_is : (fields : List (List ℕ)) (ttl : Ttl) (time : Moment) (lo : Lo)
+      → ttl.0 ≡ number_or row.ttl largest_ttl (field_at fields (row.count - 3))
+      → time.0 ≡ value_or 0 (time_of (field_at fields (row.count - 2)))
+      → lo ≡ value_or Lo.Every (lo_of (field_at fields (row.count - 1)))
+      → record { ttl = ttl; time = time; lo = lo } ≡ shared_of kind fields
   unfolding shared_of
-  shared_is s ttl time lo a b c =
-      let p : ttl.0 ≡ number_or (default_ttl kind) largest_ttl (field_at (split_on 58 s) (field_count kind - 3)) = a ∙ rw (ttl_is kind row f.0, count_is kind row f.0) in
-      let q : time.0 ≡ value_or 0 (time_of (field_at (split_on 58 s) (field_count kind - 2))) = b ∙ rw (count_is kind row f.0) in
-      let r : lo ≡ value_or Lo.Every (lo_of (field_at (split_on 58 s) (field_count kind - 1))) = c ∙ rw (count_is kind row f.0) in
+  shared_is fields ttl time lo a b c =
+      let p : ttl.0 ≡ number_or (default_ttl kind) largest_ttl (field_at fields (field_count kind - 3)) = a ∙ rw (ttl_is, count_is) in
+      let q : time.0 ≡ value_or 0 (time_of (field_at fields (field_count kind - 2))) = b ∙ rw count_is in
+      let r : lo ≡ value_or Lo.Every (lo_of (field_at fields (field_count kind - 1))) = c ∙ rw count_is in
       λ i. record { ttl = record { 0 = p i }; time = record { 0 = q i }; lo = r i }
-
-pub ruleset shared_laws = (rules, shared_is)

@@ -1,31 +1,31 @@
+use mathlib.Core.Path.{◌∙◌}
 use native.Mathlib.Omega.{arith}
 use Rattle.values.proofs.Readiness.{owner_named}
 use Rattle.authorities.proofs.Authority.{mname_named, rname_named, authority_fields, authority_room, authority_put}
 use Rattle.authorities.proofs.authorities.put_authority_line.Goals as goal
 
 pub shared_of-shared-requires : goal.shared_of-shared-requires
-shared_of-shared-requires c = (c.requires.0.fields, authority_fields)
+shared_of-shared-requires c = authority_fields
 
 pub name_at-owner-requires : goal.name_at-owner-requires
-name_at-owner-requires c = let ready = c.requires.0 in (ready.fields, omega arith, owner_named _ _ _ ready authority_fields)
+name_at-owner-requires c = (omega arith, owner_named _ _ c.requires.0 authority_fields)
 
-pub soa_numbers-numbers-requires : goal.soa_numbers-numbers-requires
-soa_numbers-numbers-requires c = c.requires.0.fields
+pub name_at-mname-requires : goal.name_at-mname-requires
+name_at-mname-requires c = (omega arith, mname_named _ c.requires.0)
 
-pub put_authority-requires : goal.put_authority-requires
-put_authority-requires c =
-    let numbers = c.soa_numbers-numbers in
-    let owner = c.name_at-owner.ensures in
-    let start = c.requires in (
-      start.0.fields,
-      owner.short,
-      owner.long,
-      mname_named _ _ start.0,
-      rname_named _ _ start.0,
-      authority_room _ _ _ _ numbers.result c.shared_of-shared.ensures owner numbers.ensures _ start.1,
-    )
+pub name_at-rname-requires : goal.name_at-rname-requires
+name_at-rname-requires c = (omega arith, rname_named _ c.requires.0)
+
+pub put_soa-requires : goal.put_soa-requires
+put_soa-requires c =
+    let owner = c.as_slice.ensures.value ∙ c.name_at-owner.ensures in
+    let mname = c.as_slice-2.ensures.value ∙ c.name_at-mname.ensures in
+    let rname = c.as_slice-3.ensures.value ∙ c.name_at-rname.ensures in
+    authority_room _ _ _ _ _ _ _ c.shared_of-shared.ensures owner mname rname c.soa_numbers-numbers.ensures _ c.requires.1
 
 pub returns : goal.returns
 returns c =
-    let numbers = c.soa_numbers-numbers in
-    authority_put _ _ _ _ numbers.result c.shared_of-shared.ensures c.name_at-owner.ensures numbers.ensures _ _ _ c.put_authority.ensures
+    let owner = c.as_slice.ensures.value ∙ c.name_at-owner.ensures in
+    let mname = c.as_slice-2.ensures.value ∙ c.name_at-mname.ensures in
+    let rname = c.as_slice-3.ensures.value ∙ c.name_at-rname.ensures in
+    authority_put _ _ _ _ _ _ _ c.shared_of-shared.ensures owner mname rname c.soa_numbers-numbers.ensures _ _ _ c.put_soa.ensures.put

@@ -1,13 +1,9 @@
-use Prim.Native.Nat.{◌-◌, ◌≤◌}
 use mathlib.Core.Path.{◌≡◌}
 use mathlib.Core.List.{◌++◌}
+use Prim.Native.Nat.{◌-◌}
 use lib.ListN.{length, take}
 use Rattle.rules.specs.Lists.{le}
-use Rattle.buffer.proofs.Puts.{Run}
 use Rattle.integers.proofs.integers.put_le.Given as goal
 
-abbrev pub invariant-loop-i : goal.invariant-loop-i
-invariant-loop-i l = (l.i ≤ l.width) × (length l.out ≡ length l.initial.out) × Run l.initial.out l.out l.i × (take l.i l.out ++ le (l.width - l.i) l.rest ≡ le l.width l.n)
-
-abbrev pub decreases-loop-i : goal.decreases-loop-i
-decreases-loop-i l = l.width - l.i
+abbrev pub invariant-loop-byte : goal.invariant-loop-byte
+invariant-loop-byte l = (length l.byte-items ≡ l.width) × (take l.byte-index l.byte-items ++ le (l.width - l.byte-index) l.rest ≡ le l.width l.n)

@@ -2,4 +2,4 @@ use Rattle.pointers.proofs.Pointing.{canonical_points}
 use Rattle.pointers.proofs.pointers.put_canonical_line.Goals as goal
 
 pub put_target-requires : goal.put_target-requires
-put_target-requires c = let start = c.requires in (start.0, canonical_points _ _ start.0, start.1)
+put_target-requires c = let start = c.requires in (start.0, canonical_points _ start.0, start.1)

@@ -1,32 +1,21 @@
-use Rattle.pointers.proofs.Pointing.{target_laws}
+use mathlib.Core.Path.{◌∙◌}
+use native.Mathlib.Omega.{arith}
+use Rattle.values.proofs.Readiness.{owner_named}
+use Rattle.pointers.proofs.Pointing.{target_room, target_put}
 use Rattle.pointers.proofs.pointers.put_target.Goals as goal
 
-pub shared_of-shared-requires : goal.shared_of-shared-requires
-shared_of-shared-requires c = search target_laws
-
 pub name_at-owner-requires : goal.name_at-owner-requires
-name_at-owner-requires c = search target_laws
-
-pub name_at-target-requires : goal.name_at-target-requires
-name_at-target-requires c = search target_laws
-
-pub slice_bounds-owner_bytes-end : goal.slice_bounds-owner_bytes-end
-slice_bounds-owner_bytes-end c = search target_laws
-
-pub slice_bounds-put_resource-end : goal.slice_bounds-put_resource-end
-slice_bounds-put_resource-end c = search target_laws
-
-pub slice_bounds-target_bytes-end : goal.slice_bounds-target_bytes-end
-slice_bounds-target_bytes-end c = search target_laws
-
-pub slice_bounds-put_resource-end-2 : goal.slice_bounds-put_resource-end-2
-slice_bounds-put_resource-end-2 c = search target_laws
+name_at-owner-requires c = let start = c.requires in (omega arith, owner_named _ _ start.0 start.1.count)
 
 pub put_resource-requires : goal.put_resource-requires
-put_resource-requires c = search target_laws
-
-pub shape_of-out : goal.shape_of-out
-shape_of-out c = search target_laws
+put_resource-requires c =
+    let start = c.requires in
+    let owner = c.as_slice.ensures.value ∙ c.name_at-owner.ensures in
+    let target = c.as_slice-2.ensures.value ∙ c.name_at-target.ensures in
+    target_room _ _ _ _ _ _ start.1 c.shared_of-shared.ensures owner target _ start.2
 
 pub returns : goal.returns
-returns c = search target_laws
+returns c =
+    let owner = c.as_slice.ensures.value ∙ c.name_at-owner.ensures in
+    let target = c.as_slice-2.ensures.value ∙ c.name_at-target.ensures in
+    target_put _ _ _ _ _ _ c.requires.1 c.shared_of-shared.ensures owner target _ _ _ c.put_resource.ensures.put

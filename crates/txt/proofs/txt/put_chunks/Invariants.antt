@@ -1,13 +1,9 @@
-use Prim.Native.Nat.{◌+◌, ◌-◌, ◌≤◌}
-use mathlib.Core.Path.{◌≡◌}
-use mathlib.Core.List.{◌++◌}
-use lib.ListN.{length, take, drop}
-use Rattle.rules.specs.Records.{chunks}
-use Rattle.buffer.proofs.Puts.{Run}
+use Rattle.std.specs.Slice.Iter.{chunks_rest, chunks_size}
+use Rattle.txt.proofs.Chunking.{Going}
 use Rattle.txt.proofs.txt.put_chunks.Given as goal
 
-abbrev pub invariant-loop-i : goal.invariant-loop-i
-invariant-loop-i l = (l.i ≤ length l.text) × (length l.out ≡ length l.initial.out) × (l.used + length (chunks (drop l.i l.text)) ≤ length l.initial.out) × Run l.initial.out l.out l.used × (take l.used l.out ++ chunks (drop l.i l.text) ≡ chunks l.text)
-
-abbrev pub decreases-loop-i : goal.decreases-loop-i
-decreases-loop-i l = length l.text - l.i
+abbrev pub invariant-loop-chunk : goal.invariant-loop-chunk
+invariant-loop-chunk l =
+    (goal.iterator-loop-chunk).can_next l.chunk-iterator
+    × (goal.iterator-loop-chunk).is_finite l.chunk-iterator
+    × Going l.text l.initial.out l.out l.used (chunks_size l.chunk-iterator) (chunks_rest l.chunk-iterator)
