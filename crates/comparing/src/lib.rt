@@ -19,15 +19,13 @@ pub fn compare(key: &[u8], name: &[u8]) -> Compared
             pairs: 0,
         };
     }
-    let mut i: usize = 0;
-    while i < n {
-        if key[i] != name[i] {
+    for (i, &b) in key.iter().enumerate() {
+        if b != name[i] {
             return Compared {
                 same: false,
                 pairs: i + 1,
             };
         }
-        i += 1;
     }
     Compared {
         same: true,

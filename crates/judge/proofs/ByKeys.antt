@@ -2,7 +2,7 @@
 use mathlib.Core.Path.{◌≡◌, refl, ap, ◌∙◌, sym}
 use mathlib.Core.Bool.{Bool, true, false, ◌&&◌}
 use mathlib.Core.List.{List, [], ◌∷◌}
-use Rattle.std.specs.Prelude.{Some}
+use Rattle.std.specs.Prelude.{Option, Some, None}
 use Prim.Native.Nat.{ℕ, zero, suc, ◌+◌, ◌*◌, ◌<◌, ◌≤◌}
 use native.Mathlib.Omega.{arith}
 use borrow.Author.Rules.{rules}
@@ -20,38 +20,38 @@ use Rattle.judge.proofs.Meanings.{no_fixed}
 -- ---- by the type
 
 module _ (key : List ℕ) where
-  pub no_flag_byte : (rdata : List ℕ) → length rdata < 3 → seen_record key rdata Seen.Broken ≡ resource_in key rdata
+  pub no_flag_byte : (rdata : List ℕ) → length rdata < 3 → seen_record key rdata None ≡ resource_in key rdata
   unfolding seen_record resource_in
   no_flag_byte [] h = refl
   no_flag_byte (t ∷ []) h = refl
   no_flag_byte (t ∷ u ∷ []) h = refl
   no_flag_byte (t ∷ u ∷ v ∷ r) h = absurd (omega arith)
 
-  pub typed : (rdata : List ℕ) (high low : ℕ) (r : Seen) → 3 ≤ length rdata → high ≡ get_or rdata 0 0 → low ≡ get_or rdata 1 0
-      → seen_record key rdata r ≡ by_flag key (high * 256 + low) (get_or rdata 2 0) (drop 3 rdata) → seen_record key rdata r ≡ resource_in key rdata
+  pub typed : (rdata : List ℕ) (type : ℕ) (r : Option Seen) → 3 ≤ length rdata → type ≡ get_or rdata 0 0 * 256 + get_or rdata 1 0
+      → seen_record key rdata r ≡ by_flag key type (get_or rdata 2 0) (drop 3 rdata) → seen_record key rdata r ≡ resource_in key rdata
   unfolding resource_in from_be
-  typed [] high low r h a b e = absurd (omega arith)
-  typed (t ∷ []) high low r h a b e = absurd (omega arith)
-  typed (t ∷ u ∷ []) high low r h a b e = absurd (omega arith)
-  typed (t ∷ u ∷ v ∷ rest) high low r h a b e =
-      let q : high * 256 + low ≡ (0 * 256 + t) * 256 + u = omega arith in
+  typed [] type r h a e = absurd (omega arith)
+  typed (t ∷ []) type r h a e = absurd (omega arith)
+  typed (t ∷ u ∷ []) type r h a e = absurd (omega arith)
+  typed (t ∷ u ∷ v ∷ rest) type r h a e =
+      let q : type ≡ (0 * 256 + t) * 256 + u = omega arith in
       rw q at e
 
 pub ruleset type_laws = (rules, no_flag_byte, typed, no_fixed)
 
 -- ---- a location
 
-pub location_fixed : (rdata : List ℕ) (lo : Lo) → fixed_in (Seen.Location lo) ≤ length rdata
+pub location_fixed : (rdata : List ℕ) (lo : Lo) → fixed_in (Some (Seen.Location lo)) ≤ length rdata
 unfolding fixed_in
 location_fixed rdata lo = omega arith
 
 module _ (key rdata : List ℕ) where
-  pub no_mark : (get_or key 1 0 ≡ 37 → ⊥) → seen_record key rdata Seen.Broken ≡ location_in (get_or key 1 0) (drop 2 key) rdata
+  pub no_mark : (get_or key 1 0 ≡ 37 → ⊥) → seen_record key rdata None ≡ location_in (get_or key 1 0) (drop 2 key) rdata
   unfolding seen_record location_in pick
   no_mark h = rw (ne_eqb _ _ h)
 
   module _ (mark : get_or key 1 0 ≡ 37) where
-    pub prefix_long : 6 < length key → seen_record key rdata Seen.Broken ≡ location_in (get_or key 1 0) (drop 2 key) rdata
+    pub prefix_long : 6 < length key → seen_record key rdata None ≡ location_in (get_or key 1 0) (drop 2 key) rdata
     unfolding seen_record location_in pick
     prefix_long h = rw (eq-eqb _ _ mark, lt-leb (length (drop 2 key)) 4 (omega (arith, length-drop 2 key)))
 
@@ -72,7 +72,7 @@ module _ (key rdata : List ℕ) where
       bytes_of (a ∷ b ∷ []) h = refl
       bytes_of (a ∷ b ∷ c ∷ r) h = absurd (omega arith)
 
-      pub not_two : (length rdata ≡ 2 → ⊥) → seen_record key rdata Seen.Broken ≡ location_in (get_or key 1 0) (drop 2 key) rdata
+      pub not_two : (length rdata ≡ 2 → ⊥) → seen_record key rdata None ≡ location_in (get_or key 1 0) (drop 2 key) rdata
       unfolding seen_record location_in pick
       not_two h = rw (eq-eqb _ _ mark, prefix_short, no_lo rdata h)
 
@@ -80,11 +80,11 @@ module _ (key rdata : List ℕ) where
         code_is : is_lo rdata ≡ t
         code_is = ap is_lo (bytes_of rdata l) ∙ sym q
 
-        pub coded : t ≡ true → seen_record key rdata (Seen.Location (Lo.Code (get_or rdata 0 0) (get_or rdata 1 0))) ≡ location_in (get_or key 1 0) (drop 2 key) rdata
+        pub coded : t ≡ true → seen_record key rdata (Some (Seen.Location (Lo.Code (get_or rdata 0 0) (get_or rdata 1 0)))) ≡ location_in (get_or key 1 0) (drop 2 key) rdata
         unfolding seen_record location_in pick lo_bytes
         coded y = rw (eq-eqb _ _ mark, prefix_short, code_is, y) (ap (λ (lo : List ℕ). Some (location (drop 2 key) lo)) (sym (bytes_of rdata l)))
 
-        pub not_coded : t ≡ false → seen_record key rdata Seen.Broken ≡ location_in (get_or key 1 0) (drop 2 key) rdata
+        pub not_coded : t ≡ false → seen_record key rdata None ≡ location_in (get_or key 1 0) (drop 2 key) rdata
         unfolding seen_record location_in pick
         not_coded y = rw (eq-eqb _ _ mark, prefix_short, code_is, y)
 
@@ -92,16 +92,8 @@ pub ruleset location_laws = (rules, no_mark, prefix_long, not_two, coded, not_co
 
 -- ---- by the key
 
-pub one_byte : (key : List ℕ) → length key < 2 → false ≡ (leb 2 (length key) && eqb (get_or key 0 0) 0)
-one_byte key h = rw (lt-leb 2 (length key) h)
-
-pub two_bytes : (key : List ℕ) → 2 ≤ length key → eqb (get_or key 0 0) 0 ≡ (leb 2 (length key) && eqb (get_or key 0 0) 0)
-two_bytes key h = rw (le-leb 2 (length key) h)
-
-pub ruleset location_key_laws = (rules, one_byte, two_bytes)
-
 module _ (rdata : List ℕ) where
-  pub no_key : (key : List ℕ) → length key ≡ 0 → seen_record key rdata Seen.Broken ≡ record_in key rdata
+  pub no_key : (key : List ℕ) → length key ≡ 0 → seen_record key rdata None ≡ record_in key rdata
   unfolding seen_record record_in
   no_key [] h = refl
   no_key (b ∷ key) h = absurd (omega arith)
@@ -117,11 +109,11 @@ module _ (rdata : List ℕ) where
       absurd (omega arith)
   name_is (suc b ∷ key) t h q y = refl
 
-  pub name_key : (key : List ℕ) (t : Bool) (r : Seen) → (length key ≡ 0 → ⊥) → t ≡ (leb 2 (length key) && eqb (get_or key 0 0) 0) → t ≡ false
+  pub name_key : (key : List ℕ) (t : Bool) (r : Option Seen) → (length key ≡ 0 → ⊥) → t ≡ (leb 2 (length key) && eqb (get_or key 0 0) 0) → t ≡ false
       → seen_record key rdata r ≡ resource_in key rdata → seen_record key rdata r ≡ record_in key rdata
   name_key key t r h q y e = e ∙ name_is key t h q y
 
-  pub location_key : (key : List ℕ) (t : Bool) (r : Seen) → t ≡ (leb 2 (length key) && eqb (get_or key 0 0) 0) → t ≡ true
+  pub location_key : (key : List ℕ) (t : Bool) (r : Option Seen) → t ≡ (leb 2 (length key) && eqb (get_or key 0 0) 0) → t ≡ true
       → seen_record key rdata r ≡ location_in (get_or key 1 0) (drop 2 key) rdata → seen_record key rdata r ≡ record_in key rdata
   unfolding record_in
   location_key [] t r q y e = let z : ◌≡◌ {A = ℕ} 0 1 = cc in absurd (omega arith)

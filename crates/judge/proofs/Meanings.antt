@@ -20,8 +20,6 @@ use Rattle.rules.proofs.Tests.{pick_ok, tests}
 use Rattle.keys.specs.Keys.{good_key, low_name, fits_owner}
 use Rattle.keys.proofs.GoodKeys.{good_is}
 use Rattle.judge.specs.declared.Seen.{Seen}
-use Rattle.judge.specs.declared.Flag.{Flag}
-use Rattle.judge.specs.declared.Fields.{Fields}
 use Rattle.judge.proofs.SeenRecords.{equals}
 use Rattle.judge.specs.Seen.{owner_of, seen_record, shared_in, seen_with, wildcard_flag, lo_in, lo_flag, flag_by, flag_in, fixed_in}
 
@@ -48,7 +46,7 @@ module _ (key rdata : List ℕ) (w : Bool) (type : ℕ) where
       rw (drop-drop 12 at rdata)
       (go (leb 12 (length (drop at rdata)) && leb (from_be 0 (take 4 (drop at rdata))) largest_ttl && ltb (from_be 0 (take 8 (drop 4 (drop at rdata)))) moment_end))
     where
-      go : (t : Bool) → seen_record key rdata (seen_with w type (at + 12) (pick t (Fields.Whole (record { ttl = record { 0 = from_be 0 (take 4 (drop at rdata)) }; time = record { 0 = from_be 0 (take 8 (drop 4 (drop at rdata))) }; lo = lo })) Fields.Broken))
+      go : (t : Bool) → seen_record key rdata (seen_with w type (at + 12) (pick t (Some (record { ttl = record { 0 = from_be 0 (take 4 (drop at rdata)) }; time = record { 0 = from_be 0 (take 8 (drop 4 (drop at rdata))) }; lo = lo })) None))
           ≡ pick t (Some (resource (owner_of w key) type (lo_bytes lo) (from_be 0 (take 4 (drop at rdata))) (from_be 0 (take 8 (drop 4 (drop at rdata)))) (drop (at + 12) rdata))) None
       go true = refl
       go false = refl
@@ -60,9 +58,9 @@ two_of (a ∷ []) h = let z : ◌≡◌ {A = ℕ} 0 1 = cc in absurd (omega arit
 two_of (a ∷ b ∷ rest) h = refl
 
 -- the record that flag and lo, and what is behind them, give
-unfoldable pub on_flag : List ℕ → List ℕ → Bool → ℕ → Flag → Option Record
-on_flag key rdata w type Flag.Broken = None
-on_flag key rdata w type (Flag.Whole lo at) = behind_lo (owner_of w key) type (lo_bytes lo) (drop at rdata)
+unfoldable pub on_flag : List ℕ → List ℕ → Bool → ℕ → Option (Lo × ℕ) → Option Record
+on_flag key rdata w type None = None
+on_flag key rdata w type (Some flag) = behind_lo (owner_of w key) type (lo_bytes flag.0) (drop flag.1 rdata)
 
 pub name_low : (key : List ℕ) (u : Bool) → u ≡ low_name key → not u ≡ false → low_name key ≡ true
 name_low key u p m = sym p ∙ not-false u m
@@ -73,7 +71,7 @@ module _ (key rdata : List ℕ) (type : ℕ) where
   lo_means w = go (is_lo (take 2 (drop 3 rdata))) refl
     where
       go : (t : Bool) → is_lo (take 2 (drop 3 rdata)) ≡ t
-          → on_flag key rdata w type (pick t (Flag.Whole (lo_in (drop 3 rdata)) 5) Flag.Broken) ≡ pick t (behind_lo (owner_of w key) type (take 2 (drop 3 rdata)) (drop 2 (drop 3 rdata))) None
+          → on_flag key rdata w type (pick t (Some (lo_in (drop 3 rdata), 5)) None) ≡ pick t (behind_lo (owner_of w key) type (take 2 (drop 3 rdata)) (drop 2 (drop 3 rdata))) None
       go true h = unfold pick on_flag in rw (two_of (drop 3 rdata) h, drop-drop 2 3 rdata)
       go false h = unfold pick on_flag in refl
 
@@ -109,7 +107,7 @@ module _ (key rdata : List ℕ) (type : ℕ) where
       equal false q = greater (eqb flag 62) refl q
 
   -- a key that is no name free of A to Z
-  pub name_bad : (u : Bool) → u ≡ low_name key → not u ≡ true → seen_record key rdata Seen.Broken ≡ by_flag key type (get_or rdata 2 0) (drop 3 rdata)
+  pub name_bad : (u : Bool) → u ≡ low_name key → not u ≡ true → seen_record key rdata None ≡ by_flag key type (get_or rdata 2 0) (drop 3 rdata)
   unfolding seen_record pick
   name_bad u p m = sym (flag_means (get_or rdata 2 0) ∙ rw (good_is key (wildcard_flag (get_or rdata 2 0)), ← p, not-true u m))
 
@@ -118,23 +116,23 @@ module _ (key rdata : List ℕ) (type : ℕ) where
     unfolding flag_in
     flagged = flag_means (get_or rdata 2 0) ∙ rw (← ew, good_is key w, low, ← q)
 
-    pub key_bad : not t ≡ true → seen_record key rdata Seen.Broken ≡ by_flag key type (get_or rdata 2 0) (drop 3 rdata)
+    pub key_bad : not t ≡ true → seen_record key rdata None ≡ by_flag key type (get_or rdata 2 0) (drop 3 rdata)
     unfolding seen_record pick
     key_bad n = sym (flagged ∙ rw (not-true t n))
 
-    module _ (n : not t ≡ false) (f : Flag) (ef : f ≡ flag_in rdata) where
-      read_on : by_flag key type (get_or rdata 2 0) (drop 3 rdata) ≡ on_flag key rdata w type f
+    module _ (n : not t ≡ false) where
+      read_on : by_flag key type (get_or rdata 2 0) (drop 3 rdata) ≡ on_flag key rdata w type (flag_in rdata)
       unfolding pick
-      read_on = flagged ∙ rw (not-false t n, ← ef)
+      read_on = flagged ∙ rw (not-false t n)
 
-      pub flag_bad : f ≡ Flag.Broken → seen_record key rdata Seen.Broken ≡ by_flag key type (get_or rdata 2 0) (drop 3 rdata)
+      pub flag_bad : None ≡ flag_in rdata → seen_record key rdata None ≡ by_flag key type (get_or rdata 2 0) (drop 3 rdata)
       unfolding seen_record on_flag
-      flag_bad b = sym (read_on ∙ ap (on_flag key rdata w type) b)
+      flag_bad b = sym (read_on ∙ ap (on_flag key rdata w type) (sym b))
 
-      pub flag_read : (lo : Lo) (at : ℕ) (r : Seen) → f ≡ Flag.Whole lo at → r ≡ seen_with w type (at + 12) (shared_in lo (drop at rdata))
+      pub flag_read : (lo : Lo) (at : ℕ) (r : Option Seen) → Some (lo, at) ≡ flag_in rdata → r ≡ seen_with w type (at + 12) (shared_in lo (drop at rdata))
           → seen_record key rdata r ≡ by_flag key type (get_or rdata 2 0) (drop 3 rdata)
       unfolding on_flag
-      flag_read lo at r b e = ap (seen_record key rdata) e ∙ behind key rdata w type lo at ∙ sym (read_on ∙ ap (on_flag key rdata w type) b)
+      flag_read lo at r b e = ap (seen_record key rdata) e ∙ behind key rdata w type lo at ∙ sym (read_on ∙ ap (on_flag key rdata w type) (sym b))
 
   -- the flag `=`
   module _ (u : Bool) (p : u ≡ low_name key) (m : not u ≡ false) (e : get_or rdata 2 0 ≡ 61) (v : Bool) (k : v ≡ wild key) where
@@ -142,11 +140,11 @@ module _ (key rdata : List ℕ) (type : ℕ) where
     unfolding wildcard_flag
     ordinary = rw e
 
-    pub starred : v ≡ true → seen_record key rdata Seen.Broken ≡ by_flag key type (get_or rdata 2 0) (drop 3 rdata)
+    pub starred : v ≡ true → seen_record key rdata None ≡ by_flag key type (get_or rdata 2 0) (drop 3 rdata)
     starred y = key_bad (name_low key u p m) false ordinary (not v) (fits_other key false v refl k) (rw y)
 
-    pub plain_read : (r : Seen) → v ≡ false → r ≡ seen_with false type (3 + 12) (shared_in Lo.Every (drop 3 rdata)) → seen_record key rdata r ≡ by_flag key type (get_or rdata 2 0) (drop 3 rdata)
-    plain_read r y f = flag_read (name_low key u p m) false ordinary (not v) (fits_other key false v refl k) (rw y) (Flag.Whole Lo.Every 3) (equals rdata e) Lo.Every 3 r refl f
+    pub plain_read : (r : Option Seen) → v ≡ false → r ≡ seen_with false type (3 + 12) (shared_in Lo.Every (drop 3 rdata)) → seen_record key rdata r ≡ by_flag key type (get_or rdata 2 0) (drop 3 rdata)
+    plain_read r y f = flag_read (name_low key u p m) false ordinary (not v) (fits_other key false v refl k) (rw y) Lo.Every 3 r (equals rdata e) f
 
 pub two_there : (rest : List ℕ) → T (is_lo (take 2 rest)) → 2 ≤ length rest
 unfolding is_lo
@@ -155,22 +153,22 @@ two_there (a ∷ []) t = absurd t
 two_there (a ∷ b ∷ rest) t = omega arith
 
 -- ttl begins within the data
-pub ttl_inside : (rdata : List ℕ) (f : Flag) (lo : Lo) (at : ℕ) → 3 ≤ length rdata → f ≡ flag_in rdata → f ≡ Flag.Whole lo at → at ≤ length rdata
-ttl_inside rdata f lo at l e b = go f e b
+pub ttl_inside : (rdata : List ℕ) (lo : Lo) (at : ℕ) → 3 ≤ length rdata → Some (lo, at) ≡ flag_in rdata → at ≤ length rdata
+ttl_inside rdata lo at l e = go (Some (lo, at)) e refl
   where
-    Within : Flag → Type 0
-    Within f = (lo : Lo) (at : ℕ) → f ≡ Flag.Whole lo at → at ≤ length rdata
+    Within : Option (Lo × ℕ) → Type 0
+    Within f = (flag : Lo × ℕ) → f ≡ Some flag → flag.1 ≤ length rdata
 
-    go : (f : Flag) → f ≡ flag_in rdata → f ≡ Flag.Whole lo at → at ≤ length rdata
+    go : (f : Option (Lo × ℕ)) → f ≡ flag_in rdata → f ≡ Some (lo, at) → at ≤ length rdata
     go f e b = unfold flag_in flag_by lo_flag in
         pick_ok Within _
-        (λ t lo at q. let z : 3 ≡ at = cc in omega arith)
+        (λ t flag q. let e : (Lo.Every, 3) ≡ flag = cc in let z : 3 ≡ flag.1 = ap (λ (x : Lo × ℕ). x.1) e in omega arith)
         (λ t. pick_ok Within _
         (λ t. pick_ok Within (is_lo (take 2 (drop 3 rdata)))
-        (λ t lo at q. let z : 5 ≡ at = cc in omega (arith, two_there (drop 3 rdata) t, length-drop 3 rdata))
-        (λ t lo at q. let z : ◌≡◌ {A = ℕ} 0 1 = cc in absurd (omega arith)))
-        (λ t lo at q. let z : ◌≡◌ {A = ℕ} 0 1 = cc in absurd (omega arith)))
-        lo at (sym e ∙ b)
+        (λ t flag q. let e : (lo_in (drop 3 rdata), 5) ≡ flag = cc in let z : 5 ≡ flag.1 = ap (λ (x : Lo × ℕ). x.1) e in omega (arith, two_there (drop 3 rdata) t, length-drop 3 rdata))
+        (λ t flag q. let z : ◌≡◌ {A = ℕ} 0 1 = cc in absurd (omega arith)))
+        (λ t flag q. let z : ◌≡◌ {A = ℕ} 0 1 = cc in absurd (omega arith)))
+        (lo, at) (sym e ∙ b)
 
 -- the fixed fields are there
 module _ (key rdata : List ℕ) (w : Bool) (type : ℕ) where
@@ -181,10 +179,10 @@ module _ (key rdata : List ℕ) (w : Bool) (type : ℕ) where
       (λ t. let h : 12 ≤ length (drop at rdata) = search tests in omega (arith, length-drop at rdata))
       (λ t. omega arith)
 
-  pub whole_fixed : (lo : Lo) (at : ℕ) (r : Seen) → r ≡ seen_with w type (at + 12) (shared_in lo (drop at rdata)) → fixed_in r ≤ length rdata
+  pub whole_fixed : (lo : Lo) (at : ℕ) (r : Option Seen) → r ≡ seen_with w type (at + 12) (shared_in lo (drop at rdata)) → fixed_in r ≤ length rdata
   whole_fixed lo at r e = rw e (behind_fixed lo at)
 
-pub no_fixed : (rdata : List ℕ) → fixed_in Seen.Broken ≤ length rdata
+pub no_fixed : (rdata : List ℕ) → fixed_in None ≤ length rdata
 unfolding fixed_in
 no_fixed rdata = omega arith
 

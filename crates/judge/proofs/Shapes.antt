@@ -2,7 +2,7 @@
 use mathlib.Core.Path.{◌≡◌, refl, ap, ◌∙◌, sym}
 use mathlib.Core.Bool.{Bool, true, false, not, ◌&&◌}
 use mathlib.Core.List.{List, [], ◌∷◌}
-use Rattle.std.specs.Prelude.{Some}
+use Rattle.std.specs.Prelude.{Option, Some}
 use Prim.Native.Nat.{ℕ, zero, suc, ◌+◌, ◌≤◌}
 use native.Mathlib.Omega.{arith}
 use lib.ListN.{length, take, drop, length-append, length-map, length-drop}
@@ -102,8 +102,8 @@ is_false false t = refl
 
 -- ---- a resource record that was seen
 
-module _ (key rdata : List ℕ) (seen : Seen) (e : seen_record key rdata seen ≡ record_in key rdata)
-    (w : Bool) (type : ℕ) (shared : Shared) (fixed : ℕ) (q : seen ≡ Seen.Resource w type shared fixed) where
+module _ (key rdata : List ℕ) (seen : Option Seen) (e : seen_record key rdata seen ≡ record_in key rdata)
+    (w : Bool) (type : ℕ) (shared : Shared) (fixed : ℕ) (q : seen ≡ Some (Seen.Resource w type shared fixed)) where
   pub is_resource : record_in key rdata ≡ Some (resource (owner_of w key) type (lo_bytes shared.lo) shared.ttl.0 shared.time.0 (drop fixed rdata))
   unfolding seen_record
   is_resource = sym e ∙ ap (seen_record key rdata) q

@@ -2,7 +2,7 @@
 
 #![tactic(auto)]
 
-ghost use Rattle.std.specs.Prelude.{◌≡◌, ◌&&◌, leb};
+ghost use Rattle.std.specs.Prelude.{◌≡◌};
 ghost use Rattle.rules.specs.Names.{is_wire};
 ghost use Rattle.rules.specs.Reading.{lowered};
 ghost use Rattle.keys.specs.Keys.{low_name};
@@ -14,8 +14,8 @@ const LONGEST_NAME: usize = 255;
 
 const LONGEST_LABEL: u64 = 63;
 
-// Whether bytes are a name on the wire. It goes from label to label up to the last byte, which is known by its place: to read it nothing has
-// to be read before.
+// Whether bytes are a name on the wire. It goes from label to label by its place up to the last byte: to know that byte nothing has to be
+// read before. A part that shrinks would be tested twice for each label.
 pub fn is_wire(name: &[u8]) -> bool
     ensures { result ≡ is_wire name.now }
 {
@@ -44,29 +44,14 @@ pub fn is_wire(name: &[u8]) -> bool
     name[last] == 0
 }
 
-// Whether a byte is one of A to Z.
-fn is_upper(b: u8) -> bool
-    ensures { result ≡ (leb 65 b && leb b 90) }
-{
-    if b < 65 {
-        return false;
-    }
-    b <= 90
-}
-
 // Whether a part of a key is free of A to Z. Each byte is looked at: a loop without a way out takes many bytes at a time.
 fn is_lowered_part(part: &[u8]) -> bool
     ensures { result ≡ lowered part.now }
 {
-    let n = part.len();
     let mut low = true;
-    let mut i: usize = 0;
-    while i < n {
-        if is_upper(part[i]) {
+    for &b in part {
+        if b.is_ascii_uppercase() {
             low = false;
-            i += 1;
-        } else {
-            i += 1;
         }
     }
     low
@@ -76,20 +61,17 @@ fn is_lowered_part(part: &[u8]) -> bool
 fn is_lowered(key: &[u8]) -> bool
     ensures { result ≡ lowered key.now }
 {
-    let n = key.len();
-    if n < 16 {
+    let Some(last) = key.last_chunk::<16>() else {
         return is_lowered_part(key);
-    }
-    let mut i: usize = 0;
-    while 16 < n - i {
-        let next = i + 16;
-        if !is_lowered_part(&key[i..next]) {
+    };
+    let mut rest = key;
+    while let Some((part, behind)) = rest.split_first_chunk::<16>() {
+        if !is_lowered_part(part) {
             return false;
         }
-        i = next;
+        rest = behind;
     }
-    let last = n - 16;
-    is_lowered_part(&key[last..])
+    is_lowered_part(last)
 }
 
 // Whether a key is a name free of A to Z, as that of every record with an owner is. Letters first: behind is_wire the last byte would be

@@ -2,7 +2,7 @@
 use mathlib.Core.Path.{◌≡◌, ap, ◌∙◌, sym}
 use mathlib.Core.Bool.{Bool, true, false, not, and-true, and-false}
 use mathlib.Core.List.{List, [], ◌∷◌, map}
-use Rattle.std.specs.Prelude.{Some}
+use Rattle.std.specs.Prelude.{Option, Some, None}
 use Prim.Native.Nat.{ℕ, suc, ◌+◌, ◌*◌, ◌-◌, ◌<◌, ◌≤◌}
 use native.Mathlib.Omega.{arith}
 use native.Mathlib.Numerals.{add-one}
@@ -64,16 +64,16 @@ pub ruleset better_laws = (rules, no_match, too_short, longer)
 
 -- ---- one record
 
-module _ (name key rdata : List ℕ) (seen : Seen) (e : seen_record key rdata seen ≡ record_in key rdata) where
-  pub step_broken : seen ≡ Seen.Broken → step_seen Step.Broken ≡ step_of name key (record_in key rdata)
+module _ (name key rdata : List ℕ) (seen : Option Seen) (e : seen_record key rdata seen ≡ record_in key rdata) where
+  pub step_broken : seen ≡ None → step_seen Step.Broken ≡ step_of name key (record_in key rdata)
   unfolding seen_record step_seen step_of
   step_broken q = rw (← e, q)
 
-  pub step_location : (found : Lo) → seen ≡ Seen.Location found → step_seen (Step.Location found) ≡ step_of name key (record_in key rdata)
+  pub step_location : (found : Lo) → seen ≡ Some (Seen.Location found) → step_seen (Step.Location found) ≡ step_of name key (record_in key rdata)
   unfolding seen_record step_seen step_of
   step_location found q = rw (← e, q)
 
-  module _ (w : Bool) (type : ℕ) (shared : Shared) (fixed : ℕ) (q : seen ≡ Seen.Resource w type shared fixed) (t : Bool) (k : t ≡ ends_in name key) where
+  module _ (w : Bool) (type : ℕ) (shared : Shared) (fixed : ℕ) (q : seen ≡ Some (Seen.Resource w type shared fixed)) (t : Bool) (k : t ≡ ends_in name key) where
     owned : record_in key rdata ≡ Some (resource (owner_of w key) type (lo_bytes shared.lo) shared.ttl.0 shared.time.0 (drop fixed rdata))
     owned = is_resource key rdata seen e w type shared fixed q
 

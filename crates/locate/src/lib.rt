@@ -14,11 +14,10 @@ ghost use Rattle.locate.specs.Grown.{grown_to};
 ghost use Rattle.locate.specs.Steps.{seen, related_step, step_seen, step_of};
 ghost use Rattle.locate.specs.Stops.{IsStop};
 
-use judge::{Seen, record_in};
+use judge::{Seen, record_in, type_in};
 use ranks::is_end;
 use rules::quantities::Lo;
 use stream::span_at;
-use wire::get::wide;
 
 // The location of the longest prefix so far, and how long a better prefix is at least.
 #[derive(Clone, Copy)]
@@ -135,29 +134,14 @@ fn controls(own: bool) -> Step
     Step::Control
 }
 
-// The type of a record by its data: it is read for the few records that want it, and not for each that is judged.
-fn type_in(rdata: &[u8]) -> u16
-    requires { 2 ≤ length rdata.now }
-    ensures { result ≡ get_or rdata.now 0 0 * 256 + get_or rdata.now 1 0 }
-{
-    let high = wide(rdata[0]);
-    let low = wide(rdata[1]);
-    (high * 256 + low) as u16
-}
-
-// What a record is to the pass.
+// What a record is to the pass. Its type is read only where it is wanted, and not for each record that is judged.
 fn step_in(name: &[u8], key: &[u8], rdata: &[u8]) -> Step
     ensures { step_seen result ≡ step_of (map lower name.now) key.now (record_in key.now rdata.now) }
 {
     match record_in(key, rdata) {
-        Seen::Broken => Step::Broken,
-        Seen::Location(found) => Step::Location(found),
-        Seen::Resource {
-            wild,
-            rtype: _,
-            shared: _,
-            fixed: _,
-        } => {
+        None => Step::Broken,
+        Some(Seen::Location(found)) => Step::Location(found),
+        Some(Seen::Resource { wild, .. }) => {
             if !is_end(name, key) {
                 return Step::Other;
             }

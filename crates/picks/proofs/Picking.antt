@@ -44,11 +44,7 @@ module _ (type : ℕ) (role : Role) (name here : List ℕ) (moment best : ℕ) (
       go None p = unfold wanted_in in refl
       go (Some r) p = unfold rank_in wanted_in wanted in rw (ne_eqb (seen_rank role name here moment r) best (λ e. n (p ∙ e)))
 
-  module _ (seen : Seen) (e : seen_record key rdata seen ≡ record_in key rdata) where
-    pub wanted_broken : seen ≡ Seen.Broken → false ≡ wanted_in type role name here moment best (record_in key rdata)
-    unfolding wanted_in seen_record
-    wanted_broken b = rw (← e, b)
-
+  module _ (seen : Seen) (e : seen_record key rdata (Some seen) ≡ record_in key rdata) where
     pub wanted_location : (lo : Lo) → seen ≡ Seen.Location lo → false ≡ wanted_in type role name here moment best (record_in key rdata)
     unfolding wanted_in wanted seen_record of_type
     wanted_location lo b = rw (← e, b, and-false)
@@ -57,7 +53,7 @@ module _ (type : ℕ) (role : Role) (name here : List ℕ) (moment best : ℕ) (
       typed : wanted_in type role name here moment best (record_in key rdata) ≡ (eqb type 255 || eqb type rtype)
       unfolding wanted_in wanted seen_record of_type rank_in
       typed =
-          let r : record_in key rdata ≡ Some (resource (owner_of w key) rtype (lo_bytes shared.lo) shared.ttl.0 shared.time.0 (drop fixed rdata)) = sym e ∙ ap (seen_record key rdata) b in
+          let r : record_in key rdata ≡ Some (resource (owner_of w key) rtype (lo_bytes shared.lo) shared.ttl.0 shared.time.0 (drop fixed rdata)) = sym e ∙ ap (λ (x : Seen). seen_record key rdata (Some x)) b in
           let s : seen_rank role name here moment (resource (owner_of w key) rtype (lo_bytes shared.lo) shared.ttl.0 shared.time.0 (drop fixed rdata)) ≡ best = sym (q ∙ ap (rank_in role name here moment) r) ∙ h in
           rw (r, eq-eqb _ _ s)
 
@@ -67,13 +63,9 @@ module _ (type : ℕ) (role : Role) (name here : List ℕ) (moment best : ℕ) (
       pub this_type : (type ≡ 255 → ⊥) → eqb type rtype ≡ wanted_in type role name here moment best (record_in key rdata)
       this_type t = rw (typed, ne_eqb _ _ t)
 
-pub ruleset wanted_laws = (rules, other_rank, wanted_broken, wanted_location, any_type, this_type)
+pub ruleset wanted_laws = (rules, other_rank, wanted_location, any_type, this_type)
 
-module _ (moment end : ℕ) (key rdata : List ℕ) (seen : Seen) (e : seen_record key rdata seen ≡ record_in key rdata) where
-  pub reply_broken : seen ≡ Seen.Broken → Reply.NoMore ≡ reply_in moment end (record_in key rdata)
-  unfolding reply_in seen_record
-  reply_broken b = rw (← e, b)
-
+module _ (moment end : ℕ) (key rdata : List ℕ) (seen : Seen) (e : seen_record key rdata (Some seen) ≡ record_in key rdata) where
   pub reply_location : (lo : Lo) → seen ≡ Seen.Location lo → Reply.NoMore ≡ reply_in moment end (record_in key rdata)
   unfolding reply_in seen_record
   reply_location lo b = rw (← e, b)
@@ -90,11 +82,11 @@ module _ (moment end : ℕ) (key rdata : List ℕ) (seen : Seen) (e : seen_recor
       same_life owner type lo zero zero rd = unfold lifetime_of in refl
       same_life owner type lo zero (suc time) rd = unfold lifetime_of in refl
 
-pub fixed_there : (rdata : List ℕ) (seen : Seen) (w : Bool) (type : ℕ) (shared : Shared) (fixed : ℕ) → fixed_in seen ≤ length rdata → seen ≡ Seen.Resource w type shared fixed → fixed ≤ length rdata
+pub fixed_there : (rdata : List ℕ) (seen : Seen) (w : Bool) (type : ℕ) (shared : Shared) (fixed : ℕ) → fixed_in (Some seen) ≤ length rdata → seen ≡ Seen.Resource w type shared fixed → fixed ≤ length rdata
 unfolding fixed_in
 fixed_there rdata seen w type shared fixed h b = rw b at h
 
-pub ruleset reply_laws = (rules, reply_broken, reply_location, reply_found, fixed_there)
+pub ruleset reply_laws = (rules, reply_location, reply_found, fixed_there)
 
 -- ---- the pass
 

@@ -35,14 +35,8 @@ fn is_wanted(
         return false;
     }
     match known_in(key, rdata) {
-        Seen::Broken => false,
         Seen::Location(_) => false,
-        Seen::Resource {
-            wild: _,
-            rtype,
-            shared: _,
-            fixed: _,
-        } => {
+        Seen::Resource { rtype, .. } => {
             if qtype == 255 {
                 return true;
             }
@@ -83,13 +77,12 @@ fn reply_in(moment: Moment, end: usize, key: &[u8], rdata: &[u8]) -> Reply
     ensures { result ≡ reply_in moment.0 end (record_in key.now rdata.now) }
 {
     match known_in(key, rdata) {
-        Seen::Broken => Reply::NoMore,
         Seen::Location(_) => Reply::NoMore,
         Seen::Resource {
-            wild: _,
             rtype,
             shared,
             fixed,
+            ..
         } => {
             let length = rdata.len() - fixed;
             let place = end - length;

@@ -208,11 +208,7 @@ module _ (role : Role) (name here : List ℕ) (moment : ℕ) (key rdata : List �
       go (Some (resource owner type lo ttl time rd)) s =
           rw (by_key type ttl time lo rd role name key owner s.w s.owned s.good, no_role (sym q ∙ not-true t n) s.w type role) (sym (pick_same (visible here moment (resource owner type lo ttl time rd)) 0))
 
-  module _ (seen : Seen) (e : seen_record key rdata seen ≡ record_in key rdata) where
-    pub no_record_lem : seen ≡ Seen.Broken → 0 ≡ rank_in role name here moment (record_in key rdata)
-    unfolding rank_in seen_record
-    no_record_lem q = rw (← e, q)
-
+  module _ (seen : Seen) (e : seen_record key rdata (Some seen) ≡ record_in key rdata) where
     pub a_location : (lo : Lo) → seen ≡ Seen.Location lo → 0 ≡ rank_in role name here moment (record_in key rdata)
     unfolding rank_in seen_record seen_rank visible pick
     a_location lo q = rw (← e, q)
@@ -222,8 +218,8 @@ module _ (role : Role) (name here : List ℕ) (moment : ℕ) (key rdata : List �
       unfolding rank_in seen_rank visible sharing
       ranked =
           rw (
-            is_resource key rdata seen e w type shared fixed q,
-            by_key type shared.ttl.0 shared.time.0 (lo_bytes shared.lo) (drop fixed rdata) role name key (owner_of w key) w refl (good_key_lem key rdata seen e w type shared fixed q),
+            is_resource key rdata (Some seen) e w type shared fixed (ap (λ (x : Seen). Some x) q),
+            by_key type shared.ttl.0 shared.time.0 (lo_bytes shared.lo) (drop fixed rdata) role name key (owner_of w key) w refl (good_key_lem key rdata (Some seen) e w type shared fixed (ap (λ (x : Seen). Some x) q)),
           )
 
       module _ (t : Bool) (v : t ≡ visible here moment (sharing shared)) where
@@ -239,7 +235,7 @@ module _ (role : Role) (name here : List ℕ) (moment : ℕ) (key rdata : List �
 pub is_there : (t x : Bool) → t ≡ x → not t ≡ false → x ≡ true
 is_there t x e n = sym e ∙ not-false t n
 
-pub ruleset rank_in_laws = (rules, unrelated, no_record_lem, a_location, unseen, seen_one, is_there)
+pub ruleset rank_in_laws = (rules, unrelated, a_location, unseen, seen_one, is_there)
 
 module _ (name here : List ℕ) (moment : ℕ) (key rdata : List ℕ) where
   same_picked : (b : Bool) (n : ℕ) → pick b n n ≡ n

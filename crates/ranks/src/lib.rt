@@ -168,13 +168,12 @@ pub fn rank_in(name: &[u8], role: Role, here: Lo, moment: Moment, key: &[u8], rd
         return 0;
     }
     match known_in(key, rdata) {
-        Seen::Broken => 0,
         Seen::Location(_) => 0,
         Seen::Resource {
             wild,
             rtype,
             shared,
-            fixed: _,
+            ..
         } => {
             if !visible(here, moment, shared) {
                 return 0;

@@ -1,16 +1,15 @@
 -- The loop that marks the lengths of a name and its ancestors.
-use mathlib.Core.Path.{◌≡◌, refl, ◌∙◌, sym}
+use mathlib.Core.Path.{◌≡◌, refl, ap, ◌∙◌, sym}
 use mathlib.Core.Bool.{Bool, true, false, ◌||◌, or-false}
 use mathlib.Core.List.{List, [], ◌∷◌}
-use Prim.Native.Nat.{ℕ, zero, suc, ◌+◌, ◌-◌, ◌<◌, ◌≤◌}
+use Prim.Native.Nat.{ℕ, zero, suc, ◌<◌, ◌≤◌}
 use native.Mathlib.Omega.{arith}
 use borrow.Author.Rules.{rules}
 use borrow.Author.Tests.{eqb-true, eqb-false}
-use lib.ListN.{length, get_or, drop, set, replicate, length-drop, length-set, length-replicate, drop_of_length-le}
-use lib.Seq.{drop-drop, get_or-set_same, get_or-set_other}
+use lib.ListN.{length, get_or, drop, set, replicate, length-drop, length-set, length-replicate}
+use lib.Seq.{get_or-set_same, get_or-set_other}
 use lib.Dec.{eqb}
 use Rattle.rules.specs.Questions.{ancestors_from, ancestors}
-use Rattle.wire.proofs.Steps.{left_at}
 use Rattle.related.specs.Related.{has_length, Lengths}
 use Rattle.related.proofs.Ancestors.{next_ancestor, no_ancestor}
 
@@ -39,43 +38,49 @@ turned true false c = refl
 turned false b c = refl
 
 module _ (name : List ℕ) where
-  pub name_marked : length name ≤ 255 → LengthsFrom (set (replicate 256 false) (length name) true) (drop 0 name) name
+  pub name_marked : length name ≤ 255 → LengthsFrom (set (replicate 256 false) (length name) true) name name
   unfolding has_length
   name_marked h k =
       let l : length name < length (replicate 256 false) = omega (arith, length-replicate {A = Bool} 256 false) in
       rw (marked (replicate 256 false) (length name) k l, none_marked 256 k, or-false)
 
-  module _ (table : List Bool) (i : ℕ) (e : LengthsFrom table (drop i name) name) (t : length table ≡ 256)
-      (s : length name ≤ 255) where
-    done : ancestors (drop i name) ≡ [] → Lengths table name
+  module _ (table : List Bool) (rest : List ℕ) (e : LengthsFrom table rest name) (t : length table ≡ 256) (s : length name ≤ 255) where
+    done : ancestors rest ≡ [] → Lengths table name
     unfolding has_length
     done z = record { room = omega arith; told = λ k. sym (or-false (get_or table k false)) ∙ (rw z at e k) }
 
-    module _ (label : ℕ) (f : label ≡ get_or name i 0) (h : i < length name) where
-      here : drop i name ≡ label ∷ drop (i + 1) name
-      here = left_at name i h ∙ rw f
+    pub none_left : length rest ≡ 0 → Lengths table name
+    none_left h = done (go rest h)
+      where
+        go : (rest : List ℕ) → length rest ≡ 0 → ancestors rest ≡ []
+        go [] h = unfold ancestors ancestors_from in refl
+        go (b ∷ rest) h = absurd (omega arith)
 
+    module _ (label : ℕ) (behind : List ℕ) (here : rest ≡ label ∷ behind) where
       pub at_root : label ≡ 0 → Lengths table name
       unfolding ancestors ancestors_from
       at_root z = done (rw (here, z))
 
       module _ (z : label ≡ 0 → ⊥) where
-        pub at_end : length name - i - 1 < label → Lengths table name
-        at_end k = done (rw here (no_ancestor label (drop (i + 1) name) z (omega (arith, length-drop (i + 1) name))))
+        pub at_end : length behind < label → Lengths table name
+        at_end k = done (rw here (no_ancestor label behind z k))
 
-        pub next_marked : label ≤ length name - i - 1
-            → LengthsFrom (set table (length name - (i + 1 + label)) true) (drop (i + 1 + label) name) name
+        -- the invariant of the loop, one ancestor on
+        pub next_marked : label ≤ length behind → length rest ≤ 255 → (next : List ℕ) → next ≡ drop label behind
+            → (length next ≤ 255) × (length (set table (length next) true) ≡ 256) × LengthsFrom (set table (length next) true) next name
         unfolding has_length
-        next_marked b k =
-            let m : length name - (i + 1 + label) < length table = omega arith in
-            let a : ancestors (drop i name) ≡ drop (i + 1 + label) name ∷ ancestors (drop (i + 1 + label) name) =
-            rw here (next_ancestor label (drop (i + 1) name) z (omega (arith, length-drop (i + 1) name)) ∙ rw (drop-drop label (i + 1) name)) in
-            rw (marked table (length name - (i + 1 + label)) k m)
-            (turned (eqb (length name - (i + 1 + label)) k) (get_or table k false) _ ∙ (rw (a, length-drop (i + 1 + label) name) at e k))
+        next_marked b l next q =
+            let n : length next ≤ 255 = omega (arith, ap length q, length-drop label behind, ap length here) in
+            let m : length next < length table = omega arith in
+            let a : ancestors rest ≡ next ∷ ancestors next = rw (here, q) (next_ancestor label behind z b) in (
+              n,
+              length-set table (length next) true ∙ t,
+              λ k. rw (marked table (length next) k m) (turned (eqb (length next) k) (get_or table k false) _ ∙ (rw a at e k)),
+            )
 
-    pub none_left : length name ≤ i → Lengths table name
-    unfolding ancestors ancestors_from
-    none_left h = done (rw (drop_of_length-le name h))
+-- the label that is read is what stands in front
+pub headed : (rest behind : List ℕ) (first label : ℕ) → rest ≡ first ∷ behind → label ≡ first → rest ≡ label ∷ behind
+headed rest behind first label e q = e ∙ ap (λ (b : ℕ). b ∷ behind) (sym q)
 
 pub all_there : (table : List Bool) (j : ℕ) → length table ≡ 256 → length (set table j true) ≡ 256
 all_there table j e = length-set table j true ∙ e

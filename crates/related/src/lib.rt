@@ -6,7 +6,6 @@ ghost use Rattle.std.specs.Prelude.{◌≡◌, ◌≤◌, length};
 ghost use Rattle.related.specs.Related.{related, Lengths};
 
 use comparing::compare;
-use wire::get::wide;
 
 // The lengths of a name and its ancestors: true at each. It is to be made once for a question, and tells with one look whether
 // a key can be one of these names.
@@ -14,20 +13,19 @@ pub fn lengths_of(name: &[u8]) -> [bool; 256]
     requires { length name.now ≤ 255 }
     ensures { Lengths result name.now }
 {
-    let n = name.len();
     let mut lengths = [false; 256];
-    lengths[n] = true;
-    let mut i: usize = 0;
-    while i < n {
-        let label = wide(name[i]);
+    lengths[name.len()] = true;
+    let mut rest = name;
+    while let Some((&label, behind)) = rest.split_first() {
+        let label = usize::from(label);
         if label == 0 {
             return lengths;
         }
-        if ((n - i - 1) as u64) < label {
+        if behind.len() < label {
             return lengths;
         }
-        i = i + 1 + label as usize;
-        lengths[n - i] = true;
+        rest = &behind[label..];
+        lengths[rest.len()] = true;
     }
     lengths
 }

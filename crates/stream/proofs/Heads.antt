@@ -15,7 +15,7 @@ use Rattle.rules.specs.Records.{Record}
 use Rattle.rules.specs.Reading.{record_in, onto_records, decode_one, decode_from, decode}
 use Rattle.wire.proofs.Fuel.{enough}
 use Rattle.stream.specs.Heads.{key_length, data_length, size_at, fits, head_of, key_at, data_at, record_at}
-use Rattle.stream.specs.declared.Head.TheVariants.{Whole, Broken}
+use Rattle.stream.specs.declared.Head.{Head}
 
 both_right : (a b : Bool) → (a && b) ≡ true → b ≡ true
 both_right true b e = e
@@ -28,7 +28,7 @@ leb_is a b false f g = sym (lt-leb a b (g refl))
 -- ---- the head, as the code finds it
 
 module _ (bytes : List ℕ) where
-  pub no_lengths : length bytes < 8 → Broken ≡ head_of bytes
+  pub no_lengths : length bytes < 8 → None ≡ head_of bytes
   unfolding head_of fits pick
   no_lengths h = rw (lt-leb 8 (length bytes) h)
 
@@ -49,40 +49,43 @@ module _ (bytes : List ℕ) where
   malformed h = rw (lt-leb 8 (length bytes) h)
 
   module _ (k : ℕ) (ek : k ≡ from_le (take 4 bytes)) (l : 8 ≤ length bytes) where
-    pub key_beyond : length bytes - 8 < k → Broken ≡ head_of bytes
+    pub key_beyond : length bytes - 8 < k → None ≡ head_of bytes
     unfolding head_of pick
     key_beyond h = rw (not_fitting l (unfold size_at key_length data_length in omega arith))
 
     module _ (d : ℕ) (ed : d ≡ from_le (take 4 (drop 4 bytes))) (h : k ≤ length bytes - 8) where
-      pub data_beyond : length bytes - 8 - k < d → Broken ≡ head_of bytes
+      pub data_beyond : length bytes - 8 - k < d → None ≡ head_of bytes
       unfolding head_of pick
       data_beyond g = rw (not_fitting l (unfold size_at key_length data_length in omega arith))
 
-      pub is_whole : d ≤ length bytes - 8 - k → Whole k d ≡ head_of bytes
+      pub is_whole : d ≤ length bytes - 8 - k → Some (record { key = k; rdata = d }) ≡ head_of bytes
       unfolding head_of pick key_length data_length
       is_whole g = rw (fitting l (unfold size_at key_length data_length in omega arith), ek, ed)
 
 pub ruleset head_laws = (rules, no_lengths, key_beyond, data_beyond, is_whole)
 
-pub record IsWhole (bytes : List ℕ) (k d : ℕ) : Type 0 where
-  pub key_is : k ≡ key_length bytes
-  pub data_is : d ≡ data_length bytes
+pub record IsWhole (bytes : List ℕ) (h : Head) : Type 0 where
+  pub key_is : h.key ≡ key_length bytes
+  pub data_is : h.rdata ≡ data_length bytes
   pub long : size_at bytes ≤ length bytes
   pub fit : fits bytes ≡ true
 
-pub whole_is : (bytes : List ℕ) (k d : ℕ) → Whole k d ≡ head_of bytes → IsWhole bytes k d
+pub whole_is : (bytes : List ℕ) (h : Head) → Some h ≡ head_of bytes → IsWhole bytes h
 unfolding head_of pick
-whole_is bytes k d e = go (fits bytes) refl e
+whole_is bytes h e = go (fits bytes) refl e
   where
-    go : (t : Bool) → fits bytes ≡ t → Whole k d ≡ pick t (Whole (key_length bytes) (data_length bytes)) Broken → IsWhole bytes k d
-    go true q e = record { key_is = cc; data_is = cc; long = fitted bytes q; fit = q }
+    go : (t : Bool) → fits bytes ≡ t → Some h ≡ pick t (Some (record { key = key_length bytes; rdata = data_length bytes })) None → IsWhole bytes h
+    go true q e =
+        let w : h ≡ record { key = key_length bytes; rdata = data_length bytes } = cc in
+        record { key_is = ap (λ (h : Head). h.key) w; data_is = ap (λ (h : Head). h.rdata) w; long = fitted bytes q; fit = q }
     go false q e = let z : ◌≡◌ {A = ℕ} 0 1 = cc in absurd (omega arith)
 
-pub broken_is : (bytes : List ℕ) → Broken ≡ head_of bytes → record_at bytes ≡ None
+pub broken_is : (bytes : List ℕ) → None ≡ head_of bytes → record_at bytes ≡ None
 unfolding head_of record_at pick
 broken_is bytes e = go (fits bytes) refl e
   where
-    go : (t : Bool) → fits bytes ≡ t → Broken ≡ pick t (Whole (key_length bytes) (data_length bytes)) Broken → pick t (record_in (key_at bytes) (data_at bytes)) None ≡ None
+    go : (t : Bool) → fits bytes ≡ t → ◌≡◌ {A = Option Head} None (pick t (Some (record { key = key_length bytes; rdata = data_length bytes })) None)
+        → pick t (record_in (key_at bytes) (data_at bytes)) None ≡ None
     go true q e = let z : ◌≡◌ {A = ℕ} 0 1 = cc in absurd (omega arith)
     go false q e = refl
 

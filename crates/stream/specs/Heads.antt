@@ -1,10 +1,9 @@
 -- The record at the front of a stream.
-use Rattle.std.specs.Prelude.{ℕ, ◌+◌, Bool, ◌&&◌, List, length, take, drop, leb, Option, None}
+use Rattle.std.specs.Prelude.{ℕ, ◌+◌, Bool, ◌&&◌, List, length, take, drop, leb, Option, Some, None}
 use Rattle.rules.specs.Lists.{pick, from_le}
 use Rattle.rules.specs.Records.{Record}
 use Rattle.rules.specs.Reading.{record_in}
 use Rattle.stream.specs.declared.Head.{Head}
-use Rattle.stream.specs.declared.Head.TheVariants.{Whole, Broken}
 
 -- the length of its key and of its data
 unfoldable pub key_length : List ℕ → ℕ
@@ -20,8 +19,8 @@ size_at bytes = 8 + key_length bytes + data_length bytes
 unfoldable pub fits : List ℕ → Bool
 fits bytes = leb 8 (length bytes) && leb (size_at bytes) (length bytes)
 
-unfoldable pub head_of : List ℕ → Head
-head_of bytes = pick (fits bytes) (Whole (key_length bytes) (data_length bytes)) Broken
+unfoldable pub head_of : List ℕ → Option Head
+head_of bytes = pick (fits bytes) (Some (record { key = key_length bytes; rdata = data_length bytes })) None
 
 unfoldable pub key_at : List ℕ → List ℕ
 key_at bytes = take (key_length bytes) (drop 8 bytes)

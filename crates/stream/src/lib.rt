@@ -8,31 +8,34 @@ ghost use Rattle.stream.specs.Spans.{IsSpan};
 
 use wire::get::get_le;
 
-// What stands at the front: a record with the lengths of its key and its data, or bytes that its lengths don't fit.
+// The lengths of a record's key and of its data.
 #[derive(Clone, Copy)]
-enum Head {
-    Whole(usize, usize),
-    Broken,
+struct Head {
+    key: usize,
+    rdata: usize,
 }
 
-// The lengths are only compared with what is there, never added: no sum can wrap.
-fn head_of(bytes: &[u8]) -> Head
+// The lengths at the front, where they are there and what they say is: they are only compared with that, never added, so no sum can wrap.
+fn head_of(bytes: &[u8]) -> Option<Head>
     ensures { result ≡ head_of bytes.now }
 {
     let n = bytes.len();
     if n < 8 {
-        return Head::Broken;
+        return None;
     }
     let rest = (n - 8) as u64;
     let key = get_le(&bytes[0..4]);
     if rest < key {
-        return Head::Broken;
+        return None;
     }
-    let record = get_le(&bytes[4..8]);
-    if rest - key < record {
-        return Head::Broken;
+    let rdata = get_le(&bytes[4..8]);
+    if rest - key < rdata {
+        return None;
     }
-    Head::Whole(key as usize, record as usize)
+    Some(Head {
+        key: key as usize,
+        rdata: rdata as usize,
+    })
 }
 
 // Where a record's key begins, where its data begin and where it ends.
@@ -48,21 +51,19 @@ pub fn span_at(stream: &[u8], at: usize) -> Span
     requires { at < length stream.now }
     ensures { IsSpan stream.now at result }
 {
-    match head_of(&stream[at..]) {
-        Head::Whole(key, record) => {
-            let start = at + 8;
-            let middle = start + key;
-            let next = middle + record;
-            Span {
-                start,
-                middle,
-                next,
-            }
-        }
-        Head::Broken => Span {
+    let Some(head) = head_of(&stream[at..]) else {
+        return Span {
             start: at,
             middle: at,
             next: stream.len(),
-        },
+        };
+    };
+    let start = at + 8;
+    let middle = start + head.key;
+    let next = middle + head.rdata;
+    Span {
+        start,
+        middle,
+        next,
     }
 }

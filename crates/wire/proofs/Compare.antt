@@ -10,7 +10,7 @@ use lib.ListN.{length, get_or, drop, drop_of_length-le, length-map, get_or-map}
 use Rattle.rules.specs.Lists.{pick, lower, same_bytes, begins_with}
 use Rattle.wire.proofs.Steps.{left_at}
 
-and_false : (b : Bool) → (b && false) ≡ false
+pub and_false : (b : Bool) → (b && false) ≡ false
 and_false true = refl
 and_false false = refl
 

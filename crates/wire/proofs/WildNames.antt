@@ -1,16 +1,16 @@
 -- The label `*` in front of a name.
 use mathlib.Core.Path.{◌≡◌, refl, sym}
-use mathlib.Core.Bool.{Bool, true, false}
+use mathlib.Core.Bool.{true, false}
 use mathlib.Core.List.{List, [], ◌∷◌}
 use Prim.Native.Nat.{ℕ, ◌<◌, ◌≤◌}
 use native.Mathlib.Omega.{arith}
 use borrow.Author.Rules.{rules}
-use borrow.Author.Tests.{ne_eqb, eqb-true, eqb-false}
+use borrow.Author.Tests.{ne_eqb}
 use lib.Dec.{eqb}
 use lib.ListN.{length, get_or}
 use Rattle.rules.specs.Lists.{begins_with}
 use Rattle.rules.specs.Bytes.{wild}
-use Rattle.wire.proofs.Compare.{too_short}
+use Rattle.wire.proofs.Compare.{and_false, too_short}
 
 pub one_byte : (name : List ℕ) → length name < 2 → false ≡ wild name
 unfolding wild
@@ -21,14 +21,16 @@ unfolding wild begins_with
 other_label [] h q = absurd (omega arith)
 other_label (a ∷ name) h q = rw (ne_eqb 1 a (λ e. q (sym e)))
 
-pub one_star : (name : List ℕ) → 2 ≤ length name → get_or name 0 0 ≡ 1 → eqb (get_or name 1 0) 42 ≡ wild name
+pub other_star : (name : List ℕ) → 2 ≤ length name → (get_or name 1 0 ≡ 42 → ⊥) → false ≡ wild name
 unfolding wild begins_with
-one_star [] h q = absurd (omega arith)
-one_star (a ∷ []) h q = absurd (omega arith)
-one_star (a ∷ b ∷ name) h q = go (eqb b 42) refl
-  where
-    go : (t : Bool) → eqb b 42 ≡ t → t ≡ begins_with (1 ∷ 42 ∷ []) (a ∷ b ∷ name)
-    go true e = rw (q, eqb-true b 42 e)
-    go false e = rw (q, ne_eqb 42 b (λ z. eqb-false b 42 e (sym z)))
+other_star [] h q = absurd (omega arith)
+other_star (a ∷ []) h q = absurd (omega arith)
+other_star (a ∷ b ∷ name) h q = rw (ne_eqb 42 b (λ e. q (sym e)), and_false (eqb 1 a))
 
-pub ruleset wild_laws = (rules, one_byte, other_label, one_star)
+pub one_star : (name : List ℕ) → 2 ≤ length name → get_or name 0 0 ≡ 1 → get_or name 1 0 ≡ 42 → true ≡ wild name
+unfolding wild begins_with
+one_star [] h p q = absurd (omega arith)
+one_star (a ∷ []) h p q = absurd (omega arith)
+one_star (a ∷ b ∷ name) h p q = rw (p, q) refl
+
+pub ruleset wild_laws = (rules, one_byte, other_label, other_star, one_star)

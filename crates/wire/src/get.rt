@@ -7,7 +7,7 @@ pub fn wide(x: u8) -> u64
     ensures value { result ≡ x }
     ensures upper_bound { result < 256 }
 {
-    x as u64
+    u64::from(x)
 }
 
 // The number that bytes are, the highest first.
@@ -15,20 +15,18 @@ pub fn get_be(bytes: &[u8]) -> u64
     requires { length bytes.now ≤ 8 }
     ensures { result ≡ from_be 0 bytes.now }
 {
-    let n = bytes.len();
     let mut number: u64 = 0;
-    let mut i: usize = 0;
-    while i < n {
-        number = number * 256 + wide(bytes[i]);
-        i += 1;
+    for &b in bytes {
+        number = number * 256 + wide(b);
     }
     number
 }
 
-// The number that four bytes are, the lowest first. A sum becomes one read of memory; a loop would become four.
+// The number that four bytes are, the lowest first. It becomes one read of memory; a loop would become four.
 pub fn get_le(bytes: &[u8]) -> u64
     requires { length bytes.now ≡ 4 }
     ensures { result ≡ from_le bytes.now }
 {
-    wide(bytes[0]) + wide(bytes[1]) * 256 + wide(bytes[2]) * 65536 + wide(bytes[3]) * 16777216
+    let number = u32::from_le_bytes([bytes[0], bytes[1], bytes[2], bytes[3]]);
+    u64::from(number)
 }

@@ -6,11 +6,8 @@ ghost use Rattle.rules.specs.Bytes.{wild};
 pub fn is_wild(name: &[u8]) -> bool
     ensures { result ≡ wild name.now }
 {
-    if name.len() < 2 {
-        return false;
+    match name {
+        [1, b'*', ..] => true,
+        _ => false,
     }
-    if name[0] != 1 {
-        return false;
-    }
-    name[1] == b'*'
 }

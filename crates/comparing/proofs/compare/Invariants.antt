@@ -1,4 +1,3 @@
-use Prim.Native.Nat.{◌-◌, ◌≤◌}
 use mathlib.Core.Path.{◌≡◌}
 use lib.ListN.{length, drop}
 use Rattle.rules.specs.Comparing.{compared}
@@ -6,8 +5,5 @@ use Rattle.comparing.proofs.Pairs.{compared_from}
 use Rattle.comparing.proofs.compare.Given as goal
 
 abbrev pub invariant-loop-i : goal.invariant-loop-i
-invariant-loop-i l = (l.i ≤ length l.key) × (length l.key ≡ length l.name)
+invariant-loop-i l = (length l.key ≡ length l.name)
     × (compared_from l.i (drop l.i l.key) (drop l.i l.name) ≡ compared l.key l.name)
-
-abbrev pub decreases-loop-i : goal.decreases-loop-i
-decreases-loop-i l = length l.key - l.i

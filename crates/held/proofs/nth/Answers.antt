@@ -1,26 +1,13 @@
-use Rattle.held.proofs.Passing.{nth_laws}
+use native.Mathlib.Omega.{arith}
+use mathlib.Core.Path.{◌∙◌}
+use Rattle.held.proofs.Passing.{ended, passed, arrived}
 use Rattle.held.proofs.nth.Goals as goal
 
-pub loop-left-init : goal.loop-left-init
-loop-left-init c = search nth_laws
+pub returns-in_default : goal.returns-in_default
+returns-in_default c = ended _ _ _ _ c.loop.invariant c.in_default.ensures
 
-pub record_from-found-requires : goal.record_from-found-requires
-record_from-found-requires c = search nth_laws
-
-pub returns-then-not-found : goal.returns-then-not-found
-returns-then-not-found c = search nth_laws
-
-pub overflow_sub-left : goal.overflow_sub-left
-overflow_sub-left c = search nth_laws
-
-pub loop-left-smaller : goal.loop-left-smaller
-loop-left-smaller c = search nth_laws
-
-pub loop-left-preserved : goal.loop-left-preserved
-loop-left-preserved c = search nth_laws
-
-pub record_from-requires : goal.record_from-requires
-record_from-requires c = search nth_laws
+pub loop-preserved : goal.loop-preserved
+loop-preserved c = passed _ _ _ _ c.loop.invariant _ _ c.in-Some.ensures (omega arith)
 
 pub returns : goal.returns
-returns c = search nth_laws
+returns c = c.ok_or.ensures.value ∙ arrived _ _ _ _ c.loop.invariant _ (omega arith) c.record_at-2.ensures

@@ -4,8 +4,5 @@ use Rattle.judge.proofs.fits_owner.Goals as goal
 pub returns-then-wild : goal.returns-then-wild
 returns-then-wild c = search owner_laws
 
-pub is_wild-requires : goal.is_wild-requires
-is_wild-requires c = search owner_laws
-
 pub returns : goal.returns
 returns c = search owner_laws

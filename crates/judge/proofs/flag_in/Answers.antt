@@ -1,23 +1,14 @@
 use Rattle.judge.proofs.SeenRecords.{flag_laws}
 use Rattle.judge.proofs.flag_in.Goals as goal
 
-pub bounds-rdata-2 : goal.bounds-rdata-2
-bounds-rdata-2 c = search flag_laws
-
 pub returns-then-flag-eq42 : goal.returns-then-flag-eq42
 returns-then-flag-eq42 c = search flag_laws
-
-pub lo_in-requires : goal.lo_in-requires
-lo_in-requires c = search flag_laws
 
 pub returns-then-wild : goal.returns-then-wild
 returns-then-wild c = search flag_laws
 
 pub returns-then-flag-eq61 : goal.returns-then-flag-eq61
 returns-then-flag-eq61 c = search flag_laws
-
-pub lo_in-requires-then-flag-eq62 : goal.lo_in-requires-then-flag-eq62
-lo_in-requires-then-flag-eq62 c = search flag_laws
 
 pub returns-then-flag-eq62 : goal.returns-then-flag-eq62
 returns-then-flag-eq62 c = search flag_laws

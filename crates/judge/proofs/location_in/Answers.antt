@@ -1,35 +1,32 @@
 use Rattle.judge.proofs.ByKeys.{location_laws}
 use Rattle.judge.proofs.location_in.Goals as goal
 
-pub bounds-key-1 : goal.bounds-key-1
-bounds-key-1 c = search location_laws
+pub returns-then-key-ne37-clause-result_value : goal.returns-then-key-ne37-clause-result_value
+returns-then-key-ne37-clause-result_value c = search location_laws
 
-pub returns-then-key-ne37 : goal.returns-then-key-ne37
-returns-then-key-ne37 c = search location_laws
+pub returns-then-key-ne37-clause-result_in_bounds : goal.returns-then-key-ne37-clause-result_in_bounds
+returns-then-key-ne37-clause-result_in_bounds c = search location_laws
 
-pub returns-then-key-gt6 : goal.returns-then-key-gt6
-returns-then-key-gt6 c = search location_laws
+pub returns-then-key-gt6-clause-result_value : goal.returns-then-key-gt6-clause-result_value
+returns-then-key-gt6-clause-result_value c = search location_laws
 
-pub returns-then-rdata-ne2 : goal.returns-then-rdata-ne2
-returns-then-rdata-ne2 c = search location_laws
+pub returns-then-key-gt6-clause-result_in_bounds : goal.returns-then-key-gt6-clause-result_in_bounds
+returns-then-key-gt6-clause-result_in_bounds c = search location_laws
 
-pub bounds-rdata-0 : goal.bounds-rdata-0
-bounds-rdata-0 c = search location_laws
+pub returns-then-rdata-ne2-clause-result_value : goal.returns-then-rdata-ne2-clause-result_value
+returns-then-rdata-ne2-clause-result_value c = search location_laws
 
-pub bounds-rdata-1 : goal.bounds-rdata-1
-bounds-rdata-1 c = search location_laws
+pub returns-then-rdata-ne2-clause-result_in_bounds : goal.returns-then-rdata-ne2-clause-result_in_bounds
+returns-then-rdata-ne2-clause-result_in_bounds c = search location_laws
 
-pub is_lo-requires : goal.is_lo-requires
-is_lo-requires c = search location_laws
+pub returns-then-not-is_lo-clause-result_value : goal.returns-then-not-is_lo-clause-result_value
+returns-then-not-is_lo-clause-result_value c = search location_laws
 
-pub bounds-rdata-0-then-is_lo : goal.bounds-rdata-0-then-is_lo
-bounds-rdata-0-then-is_lo c = search location_laws
+pub returns-then-not-is_lo-clause-result_in_bounds : goal.returns-then-not-is_lo-clause-result_in_bounds
+returns-then-not-is_lo-clause-result_in_bounds c = search location_laws
 
-pub bounds-rdata-1-then-is_lo : goal.bounds-rdata-1-then-is_lo
-bounds-rdata-1-then-is_lo c = search location_laws
+pub returns-clause-result_value : goal.returns-clause-result_value
+returns-clause-result_value c = search location_laws
 
-pub returns-then-is_lo : goal.returns-then-is_lo
-returns-then-is_lo c = search location_laws
-
-pub returns-else-is_lo : goal.returns-else-is_lo
-returns-else-is_lo c = search location_laws
+pub returns-clause-result_in_bounds : goal.returns-clause-result_in_bounds
+returns-clause-result_in_bounds c = search location_laws

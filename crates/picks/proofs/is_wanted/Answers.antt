@@ -10,21 +10,9 @@ returns-then-rank_in-best c = other_rank _ _ _ _ _ _ _ _ _ c.rank_in.ensures c.i
 pub known_in-requires : goal.known_in-requires
 known_in-requires c = search wanted_laws
 
-pub enum_told-1 : goal.enum_told-1
-enum_told-1 c = search wanted_laws
-
-pub enum_told-in-Location : goal.enum_told-in-Location
-enum_told-in-Location c = search wanted_laws
-
-pub enum_known-rtype : goal.enum_known-rtype
-enum_known-rtype c = search wanted_laws
-
 pub returns-then-qtype-eq255 : goal.returns-then-qtype-eq255
 returns-then-qtype-eq255 c =
     any_type _ _ _ _ _ _ _ _ _ c.rank_in.ensures _ c.known_in.ensures.result_value c.if-rank_in-best.false _ _ _ _ c.in-Resource.is c.if-qtype-eq255.true
-
-pub returns-in-Broken : goal.returns-in-Broken
-returns-in-Broken c = search wanted_laws
 
 pub returns-in-Location : goal.returns-in-Location
 returns-in-Location c = search wanted_laws

@@ -12,15 +12,6 @@ returns-then-not-is_related c = search rank_in_laws
 pub known_in-requires : goal.known_in-requires
 known_in-requires c = search rank_in_laws
 
-pub enum_told-1 : goal.enum_told-1
-enum_told-1 c = search rank_in_laws
-
-pub enum_told-in-Location : goal.enum_told-in-Location
-enum_told-in-Location c = search rank_in_laws
-
-pub enum_known-wild : goal.enum_known-wild
-enum_known-wild c = search rank_in_laws
-
 pub visible-requires : goal.visible-requires
 visible-requires c = search rank_in_laws
 
@@ -29,9 +20,6 @@ returns-then-not-visible c = search rank_in_laws
 
 pub role_rank-requires : goal.role_rank-requires
 role_rank-requires c = search rank_in_laws
-
-pub returns-in-Broken : goal.returns-in-Broken
-returns-in-Broken c = search rank_in_laws
 
 pub returns-in-Location : goal.returns-in-Location
 returns-in-Location c = search rank_in_laws

@@ -1,20 +1,11 @@
 use Rattle.ranks.proofs.KeyRanks.{role_laws}
 use Rattle.ranks.proofs.role_rank.Goals as goal
 
-pub enum_told-1 : goal.enum_told-1
-enum_told-1 c = search role_laws
-
 pub rank-requires : goal.rank-requires
 rank-requires c = search role_laws
 
-pub enum_told-in-Control : goal.enum_told-in-Control
-enum_told-in-Control c = search role_laws
-
 pub typed_rank-requires : goal.typed_rank-requires
 typed_rank-requires c = search role_laws
-
-pub enum_told-in-Zone : goal.enum_told-in-Zone
-enum_told-in-Zone c = search role_laws
 
 pub typed_rank-requires-in-Zone : goal.typed_rank-requires-in-Zone
 typed_rank-requires-in-Zone c = search role_laws

@@ -1,47 +1,25 @@
-use Rattle.related.proofs.Lengths.{length_laws}
+use Rattle.wire.proofs.Parts.{tail_lent}
+use Rattle.related.proofs.Lengths.{headed, at_root, at_end, next_marked, length_laws}
 use Rattle.related.proofs.lengths_of.Goals as goal
 
-pub bounds-lengths-n : goal.bounds-lengths-n
-bounds-lengths-n c = search length_laws
-
-pub loop-i-init : goal.loop-i-init
-loop-i-init c = search length_laws
-
-pub bounds-name-i : goal.bounds-name-i
-bounds-name-i c = search length_laws
-
-pub wide-label-requires : goal.wide-label-requires
-wide-label-requires c = search length_laws
+pub loop-label-init : goal.loop-label-init
+loop-label-init c = search length_laws
 
 pub returns-then-label-eq0 : goal.returns-then-label-eq0
-returns-then-label-eq0 c = search length_laws
+returns-then-label-eq0 c =
+    let i = c.loop-label.invariant in
+    at_root _ _ _ i.2 i.1 c.requires _ _ (headed _ _ _ _ c.in-Some.ensures.cases.0 c.from-label.ensures) c.if-label-eq0.true
 
-pub overflow_sub-n : goal.overflow_sub-n
-overflow_sub-n c = search length_laws
+pub returns-then-behind-label : goal.returns-then-behind-label
+returns-then-behind-label c =
+    let i = c.loop-label.invariant in
+    at_end _ _ _ i.2 i.1 c.requires _ _ (headed _ _ _ _ c.in-Some.ensures.cases.0 c.from-label.ensures) c.if-label-eq0.false c.if-behind-label.true
 
-pub overflow_sub-n-in-loop-i : goal.overflow_sub-n-in-loop-i
-overflow_sub-n-in-loop-i c = search length_laws
-
-pub returns-then-n-i : goal.returns-then-n-i
-returns-then-n-i c = search length_laws
-
-pub overflow_add-i : goal.overflow_add-i
-overflow_add-i c = search length_laws
-
-pub overflow_add-i-in-loop-i : goal.overflow_add-i-in-loop-i
-overflow_add-i-in-loop-i c = search length_laws
-
-pub overflow_sub-lengths : goal.overflow_sub-lengths
-overflow_sub-lengths c = search length_laws
-
-pub bounds-lengths-n-in-loop-i : goal.bounds-lengths-n-in-loop-i
-bounds-lengths-n-in-loop-i c = search length_laws
-
-pub loop-i-smaller : goal.loop-i-smaller
-loop-i-smaller c = search length_laws
-
-pub loop-i-preserved : goal.loop-i-preserved
-loop-i-preserved c = search length_laws
+pub loop-label-preserved : goal.loop-label-preserved
+loop-label-preserved c =
+    let i = c.loop-label.invariant in
+    next_marked _ _ _ i.2 i.1 c.requires _ _ (headed _ _ _ _ c.in-Some.ensures.cases.0 c.from-label.ensures) c.if-label-eq0.false
+    c.if-behind-label.false i.0 _ (tail_lent c.in-Some.behind.now c.from-label.result)
 
 pub returns : goal.returns
 returns c = search length_laws

@@ -1,11 +1,11 @@
-use Prim.Native.Nat.{◌-◌, ◌≤◌}
+use Prim.Native.Nat.{◌≤◌}
 use mathlib.Core.Path.{◌≡◌}
-use lib.ListN.{length, drop}
+use lib.ListN.{length}
 use Rattle.related.proofs.Lengths.{LengthsFrom}
 use Rattle.related.proofs.lengths_of.Given as goal
 
-abbrev pub invariant-loop-i : goal.invariant-loop-i
-invariant-loop-i l = (l.i ≤ length l.name) × (length l.lengths ≡ 256) × LengthsFrom l.lengths (drop l.i l.name) l.name
+abbrev pub invariant-loop-label : goal.invariant-loop-label
+invariant-loop-label l = (length l.rest ≤ 255) × (length l.lengths ≡ 256) × LengthsFrom l.lengths l.rest l.name
 
-abbrev pub decreases-loop-i : goal.decreases-loop-i
-decreases-loop-i l = length l.name - l.i
+abbrev pub decreases-loop-label : goal.decreases-loop-label
+decreases-loop-label l = length l.rest
