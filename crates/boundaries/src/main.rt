@@ -1,6 +1,6 @@
-// boundaries WORD..: compiles each file that is named, with serial 1000, and prints a line for it: its name, the room, the answer's number,
-// line, field and bytes, and on 0 the records in hexadecimal digits. A word that is a number up to 65,536 is the room for the files behind
-// it; it is 65,536 at the start.
+// boundaries WORD..: compiles each file that is named, with serial 1000, and prints a line for it: its name, the
+// room, the answer's number, line, field and bytes, and on 0 the records in hexadecimal digits. A word that is a
+// number up to 65,536 is the room for the files behind it; it is 65,536 at the start.
 
 #![tactic(auto)]
 

@@ -12,8 +12,8 @@ fn refuse_argument(i: usize, room: usize) {
     let _ = writeln!(err, "argument {i} is missing, or longer than {room} bytes");
 }
 
-// Argument i, in the buffer that is lent: how many bytes it has. Where it is missing or too long, standard error has the reason.
-// The library's iterator of arguments ends at the first that is not text, and a path need not be.
+// Argument i, in the buffer that is lent: how many bytes it has. Where it is missing or too long, standard error
+// has the reason. The library's iterator of arguments ends at the first that is not text, and a path need not be.
 pub fn argument<R: Env>(rt: &R, i: usize, buf: &mut [u8]) -> Option<usize>
     ensures { IsFront buf.new result }
 {

@@ -50,7 +50,8 @@ fn read_path<R: Files>(rt: &R, path: &[u8], buf: &mut [u8]) -> Result<usize, Unr
     read_open(&mut file, buf)
 }
 
-// The whole file of this path, in the buffer that is lent: how many bytes it has. Where it can't be had, standard error has the reason.
+// The whole file of this path, in the buffer that is lent: how many bytes it has. Where it can't be had, standard
+// error has the reason.
 pub fn read_file<R: Files>(rt: &R, path: &[u8], buf: &mut [u8]) -> Option<usize>
     ensures { IsFront buf.new result }
 {

@@ -1,6 +1,7 @@
-// listing DATA: compiles the file DATA with serial 1000 and prints a line for each record: where its key, its data and the next record begin,
-// as a reader that holds the bytes finds them. Then it compiles and asks in one call, for all that town.example has, one ordinal after another,
-// and prints the numbers of each answer. What a write answers is of no use.
+// listing DATA: compiles the file DATA with serial 1000 and prints a line for each record: where its key, its data
+// and the next record begin, as a reader that holds the bytes finds them. Then it compiles and asks in one call,
+// for all that town.example has, one ordinal after another, and prints the numbers of each answer. What a write
+// answers is of no use.
 
 #![tactic(auto)]
 

@@ -18,8 +18,8 @@ fn compile_into(source: &[u8], serial: u32, out: &mut [u8]) -> Result<usize, Ans
     }
 }
 
-// The file of this path compiled into the buffer that is lent, where it has at most 65,536 bytes. Where it can't be read or is refused,
-// standard error has the reason.
+// The file of this path compiled into the buffer that is lent, where it has at most 65,536 bytes. Where it can't be
+// read or is refused, standard error has the reason.
 pub fn compile_file(rt: &HostRuntime, path: &[u8], serial: u32, out: &mut [u8]) -> Option<usize>
     ensures { IsFront out.new result }
 {

@@ -1,6 +1,7 @@
-// lookup DATA QUESTIONS [SERIAL]: compiles the file DATA and prints the answers to the questions of the file QUESTIONS, one a line: moment,
-// client, type and name. Standard output has each question and below it its outcome and records, or its refusal. Standard error has whatever
-// can't be read, is refused or can't be written, and nothing where all was done: a program has no exit status of its own choice.
+// lookup DATA QUESTIONS [SERIAL]: compiles the file DATA and prints the answers to the questions of the file
+// QUESTIONS, one a line: moment, client, type and name. Standard output has each question and below it its outcome
+// and records, or its refusal. Standard error has whatever can't be read, is refused or can't be written, and
+// nothing where all was done: a program has no exit status of its own choice.
 
 #![tactic(auto)]
 

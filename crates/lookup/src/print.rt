@@ -4,7 +4,7 @@ ghost use Rattle.questions.specs.Places.{Inside};
 
 use crate::words::{outcome_words, refusal_words};
 use hexadecimal::hex::print_hex;
-use questions::questions::{LineReply, answer_line};
+use questions::questions::answer_line;
 use refusals::replies::reply_number;
 use rules::quantities::Ttl;
 use rules::replies::{Outcome, Reply, Response};
@@ -77,7 +77,13 @@ fn print_question<P: Print>(out: &P, text: &[u8], ordinal: u64) -> Result<(), Er
 }
 
 // The record of this ordinal, and whether more may follow.
-fn print_response<P: Print>(out: &P, records: &[u8], text: &[u8], response: Response, ordinal: u64) -> Result<bool, Error>
+fn print_response<P: Print>(
+    out: &P,
+    records: &[u8],
+    text: &[u8],
+    response: Response,
+    ordinal: u64,
+) -> Result<bool, Error>
     requires { Inside records.now response.reply }
 {
     let Response { outcome, reply } = response;
@@ -87,7 +93,11 @@ fn print_response<P: Print>(out: &P, records: &[u8], text: &[u8], response: Resp
 }
 
 fn refuse_line(rt: &HostRuntime, line: Line) {
-    let Line { path, number, text: _ } = line;
+    let Line {
+        path,
+        number,
+        text: _,
+    } = line;
     let _ = rt.stderr().write_all(path);
     let _ = eprintln!(rt; ":{number}: not a question: MOMENT CLIENT TYPE NAME");
 }
@@ -95,16 +105,12 @@ fn refuse_line(rt: &HostRuntime, line: Line) {
 // Every ordinal of a question, from 0, until there are no more, or standard output takes no more.
 pub fn print_answers(rt: &HostRuntime, records: &[u8], line: Line) -> Result<(), Error> {
     for ordinal in 0..u64::MAX {
-        match answer_line(records, line.text, ordinal) {
-            LineReply::Answered(response) => {
-                if !print_response(rt, records, line.text, response, ordinal)? {
-                    return Ok(());
-                }
-            },
-            LineReply::NoQuestion => {
-                refuse_line(rt, line);
-                return Ok(());
-            },
+        let Some(response) = answer_line(records, line.text, ordinal) else {
+            refuse_line(rt, line);
+            return Ok(());
+        };
+        if !print_response(rt, records, line.text, response, ordinal)? {
+            return Ok(());
         }
     }
     Ok(())

@@ -3,7 +3,8 @@ use crate::words::fault_words;
 use refusals::faults;
 use rules::faults::Answer;
 
-// Says on standard error where a source is refused, and why: path, line and field, number and words. What a write there answers is of no use.
+// Says on standard error where a source is refused, and why: path, line and field, number and words. What a write
+// there answers is of no use.
 pub fn refuse_source(rt: &HostRuntime, path: &[u8], answer: Answer) {
     let Answer {
         fault,

@@ -15,20 +15,15 @@ use rules::comparisons::Compared;
 use std::io::Error;
 
 // The byte that two digits are.
+#[tactic(auto, using(digits::specs::Laws::hex_below))]
 fn byte_of(high: u8, low: u8) -> Option<u8> {
-    let high = hex_digit(high);
-    let low = hex_digit(low);
-    if 15 < high {
-        return None;
-    }
-    if 15 < low {
-        return None;
-    }
+    let high = hex_digit(high)?;
+    let low = hex_digit(low)?;
     Some((high * 16 + low) as u8)
 }
 
-// The bytes that digits are, at the front of the room: how many there are, where all are digits, and fit. A last byte without its pair
-// counts for nothing.
+// The bytes that digits are, at the front of the room: how many there are, where all are digits, and fit. A last
+// byte without its pair counts for nothing.
 fn read_hex(text: &[u8], room: &mut [u8]) -> Option<usize>
     ensures { IsFront room.new result }
 {
@@ -74,7 +69,8 @@ fn print_line<P: Print>(
     }
 }
 
-// The key and the name that two arguments are; one that is too long counts as no word. What a write answers is of no use.
+// The key and the name that two arguments are; one that is too long counts as no word. What a write answers is of
+// no use.
 fn compare_arguments(rt: &HostRuntime, key_at: usize, name_at: usize) {
     let mut key_word = io::buffer();
     let mut name_word = io::buffer();
@@ -85,8 +81,7 @@ fn compare_arguments(rt: &HostRuntime, key_at: usize, name_at: usize) {
     let said = compare_words(key_word, name_word);
     let _ = print_line(rt, key_word, name_word, said);
     if said.is_none() {
-        let _ = eprintln!(
-            rt;
+        let _ = eprintln!(rt;
             "a key and a name are at most 255 bytes, each as two digits of 0 to 9 and a to f"
         );
     }

@@ -22,7 +22,6 @@ use Rattle.rules.specs.declared.replies.Reply.{Reply}
 use Rattle.rules.specs.declared.replies.Response.{Response}
 use Rattle.questions.specs.Places.{Inside}
 use Rattle.questions.specs.Replies.{line_reply}
-use Rattle.questions.specs.declared.questions.LineReply.{LineReply}
 
 -- ---- the records of a stream take all its bytes
 
@@ -95,9 +94,8 @@ module _ (stream : List ℕ) (q : Question) (ordinal : ℕ) where
       (λ t. pick_ok In (not (is_client q.client)) (λ t. tt)
       (λ t. decoded_inside (decode_from (length stream) stream) (sized (length stream) stream))))
 
-pub answered_inside : (records : List ℕ) (question : Option Question) (ordinal : ℕ) (r : LineReply) (a : Response)
-    → r ≡ line_reply records question ordinal → r ≡ LineReply.Answered a → Inside records a.reply
-unfolding line_reply
+pub answered_inside : (records : List ℕ) (question : Option Question) (ordinal : ℕ) (r : Option Response) (a : Response)
+    → r ≡ line_reply records question ordinal → r ≡ Some a → Inside records a.reply
 answered_inside records None ordinal r a e f = absurd (let z : ◌≡◌ {A = ℕ} 0 1 = cc in omega arith)
 answered_inside records (Some q) ordinal r a e f = let w : ask_response records q ordinal ≡ a = cc in rw w at (inside records q ordinal)
 

@@ -1,4 +1,1 @@
-pub mod MomentDigits
-pub mod Spacing
-pub mod Reading
 pub mod Insides

@@ -1,4 +1,5 @@
-// A question as a line of text: moment, client, type and name, parted by single spaces. specs/Questions.antt says which question a line is.
+// A question as a line of text: moment, client, type and name, parted by single spaces. specs/Questions.antt says
+// which question a line is.
 
 #![tactic(auto)]
 
@@ -6,4 +7,4 @@ mod asked;
 mod askers;
 mod moments;
 pub mod questions;
-mod spans;
+mod texts;

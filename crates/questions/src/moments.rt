@@ -1,33 +1,17 @@
 // A moment of 64 bits, as 16 hexadecimal digits.
-ghost use Rattle.std.specs.Prelude.{◌≡◌};
+ghost use Rattle.std.specs.Prelude.{◌≡◌, option_map};
 ghost use Rattle.questions.specs.Questions.{moment_of};
-ghost use Rattle.questions.specs.Views.{moment_read};
 
-use digits::hex::hex_digit;
+use digits::hex::hex_number;
 use rules::quantities::Moment;
 
-#[derive(Clone, Copy)]
-pub enum MomentRead {
-    Good(Moment),
-    Bad,
-}
+// A moment has just so many digits.
+const DIGITS: usize = 16;
 
-pub fn read_moment(text: &[u8]) -> MomentRead
-    ensures { moment_read result ≡ moment_of text.now }
+#[tactic(auto, unfolding(crate::specs::Questions::moment_of, digits::specs::Digits::hex_just))]
+pub fn read_moment(text: &[u8]) -> Option<Moment>
+    ensures { option_map (λ m. m.0) result ≡ moment_of text.now }
 {
-    let n = text.len();
-    if n != 16 {
-        return MomentRead::Bad;
-    }
-    let mut value: u64 = 0;
-    let mut i: usize = 0;
-    while i < n {
-        let d = hex_digit(text[i]);
-        if 16 <= d {
-            return MomentRead::Bad;
-        }
-        value = value * 16 + d;
-        i += 1;
-    }
-    MomentRead::Good(Moment(value))
+    let second = hex_number::<DIGITS>(text)?;
+    Some(Moment(second))
 }

@@ -4,8 +4,8 @@ use Rattle.serving.proofs.compile_and_ask.Goals as goal
 pub slice_bounds-ask-end : goal.slice_bounds-ask-end
 slice_bounds-ask-end c = search serve_laws
 
-pub slice_bounds-ask-end-2 : goal.slice_bounds-ask-end-2
-slice_bounds-ask-end-2 c = search serve_laws
+pub slice_bounds-ask-end-in-Done : goal.slice_bounds-ask-end-in-Done
+slice_bounds-ask-end-in-Done c = search serve_laws
 
 pub returns-in-Done : goal.returns-in-Done
 returns-in-Done c = search (served)
