@@ -62,7 +62,12 @@ impl<'a> Iterator for Pieces<'a> {
 
 // Reads the pieces between the bytes equal to b into the places of out, in order.
 // Answers how many they are, where each reads and has a place.
-pub fn read_pieces<T: Copy, F: Fn(&[u8]) -> Option<T>>(text: &[u8], b: u8, read: F, out: &mut [T]) -> Option<usize>
+pub fn read_pieces<T: Copy, F: Fn(&[u8]) -> Option<T>>(
+    text: &[u8],
+    b: u8,
+    read: F,
+    out: &mut [T],
+) -> Option<usize>
     requires { F.IsAlwaysCallable read }
     ensures values { (f : List ℕ → Option T) → Reads F.Fn read f → option_map (λ n. take n out.new) result ≡ read_in (length out.old) f (split_on b text.now) }
     ensures room { IfSome result (λ n. n ≤ length out.old) }

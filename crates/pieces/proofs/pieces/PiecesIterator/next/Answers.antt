@@ -1,6 +1,6 @@
-use Rattle.std.proofs.Common.{ap, length, rules, refl, ◌∙◌}
+use Rattle.std.proofs.Common.{ap, length, rules, refl}
 use Rattle.pieces.specs.Pieces.{pieces_left}
-use Rattle.pieces.proofs.Piece.{left, step}
+use Rattle.pieces.proofs.Piece.{left}
 use Rattle.pieces.proofs.pieces.PiecesIterator.next.Goals as goal
 
 pub returns-in_err-text-clause-steps : goal.returns-in_err-text-clause-steps
