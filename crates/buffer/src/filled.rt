@@ -1,5 +1,7 @@
 // A buffer of fixed size, of which the front is filled.
-ghost use Rattle.std.specs.Prelude.{◌≡◌, ◌≤◌, length, take};
+ghost use Rattle.std.specs.Prelude.{◌≡◌, ℕ, List, ◌≤◌, length, take};
+ghost use Rattle.std.specs.Borrow.{MutBor};
+ghost use Rattle.buffer.specs.Filling.{EachFilling};
 
 use std::marker::Model;
 
@@ -27,6 +29,17 @@ impl<const N: usize> Filled<N> {
         ensures { result ≡ take len bytes.entry }
     {
         Filled { bytes, len }
+    }
+
+    // What fill puts at the front of N bytes; it answers how many.
+    pub fn by<F: FnOnce(&mut [u8]) -> usize>(fill: F) -> Self
+        requires callable { (room : MutBor (List ℕ)) → length room.now ≡ N → F.pre fill room }
+        requires within { EachFilling N (F.post fill) (λ full len. len ≤ N) }
+        ensures { (x : List ℕ) → EachFilling N (F.post fill) (λ full len. take len full ≡ x) → result ≡ x }
+    {
+        let mut bytes = [0u8; N];
+        let len = fill(&mut bytes);
+        Filled::new(bytes, len)
     }
 
     pub fn as_slice(&self) -> &[u8]

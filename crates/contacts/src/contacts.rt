@@ -23,7 +23,5 @@ pub fn read_contact(owner: &[u8]) -> Name
     requires { length (contact_of owner.now) ≤ 255 }
     ensures { result ≡ contact_of owner.now }
 {
-    let mut bytes = [0u8; 255];
-    let len = put_contact(&mut bytes, owner);
-    Filled::new(bytes, len)
+    Filled::by(|room| put_contact(room, owner))
 }

@@ -11,7 +11,7 @@ use Rattle.rules.specs.Lists.{pick, has}
 use Rattle.rules.specs.Names.{label, name_of, wire_of}
 use Rattle.rules.specs.Records.{host_name}
 use Rattle.buffer.specs.Put.{IsPut}
-use Rattle.buffer.proofs.Puts.{behind_length, within, then, filled}
+use Rattle.buffer.proofs.Puts.{behind_length, within, then, front}
 use Rattle.names.specs.Views.{is_named}
 use Rattle.given.specs.Given.{HostGood}
 
@@ -56,7 +56,7 @@ module _ (owner x middle : List ℕ) (g : HostGood owner x middle) (dot : Bool) 
   joined_fits n t h =
       omega (arith, g.short, ap length (host_joined owner x middle (sym e ∙ t)), length-append (label x ++ label middle) owner, length-append (label x) (label middle))
 
-  pub held_host : (d f held : List ℕ) (r : ℕ) → dot ≡ false → IsPut (label x ++ label middle ++ owner) d f r → held ≡ take r f → held ≡ host_name middle owner x
-  held_host d f held r t p h = rw (host_joined owner x middle (sym e ∙ t)) (filled _ d f held r p h)
+  pub held_host : (d f : List ℕ) (r : ℕ) → dot ≡ false → IsPut (label x ++ label middle ++ owner) d f r → take r f ≡ host_name middle owner x
+  held_host d f r t p = rw (host_joined owner x middle (sym e ∙ t)) (front _ d f r p)
 
-pub ruleset host_laws = (rules, x_named, x_itself, x_short, middle_short, joined_fits, held_host)
+pub ruleset host_laws = (rules, within, x_named, x_itself, x_short, middle_short, joined_fits, held_host)

@@ -28,7 +28,5 @@ pub fn read_host(owner: &[u8], x: &[u8], middle: &[u8]) -> Name
     if has_byte(x, b'.') {
         return read_name(x);
     }
-    let mut bytes = [0u8; 255];
-    let len = put_joined(&mut bytes, x, middle, owner);
-    Filled::new(bytes, len)
+    Filled::by(|room| put_joined(room, x, middle, owner))
 }

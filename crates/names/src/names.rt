@@ -40,7 +40,5 @@ pub fn read_name(text: &[u8]) -> Name
     requires { is_named (name_of text.now) ≡ true }
     ensures { result ≡ wire_of text.now }
 {
-    let mut bytes = [0u8; 255];
-    let len = put_name(&mut bytes, text);
-    Filled::new(bytes, len)
+    Filled::by(|room| put_name(room, text))
 }

@@ -76,7 +76,5 @@ pub fn read_reverse(address: &[u8]) -> Name
     requires { length address.now ≤ 16 }
     ensures { result ≡ reverse_name address.now }
 {
-    let mut bytes = [0u8; 255];
-    let len = put_reverse_name(&mut bytes, address);
-    Filled::new(bytes, len)
+    Filled::by(|room| put_reverse_name(room, address))
 }

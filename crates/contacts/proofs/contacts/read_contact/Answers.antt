@@ -1,13 +1,10 @@
-use Rattle.contacts.proofs.Contact.{contact_room}
-use Rattle.buffer.proofs.Puts.{filled}
 use borrow.Author.Rules.{rules}
+use Rattle.buffer.proofs.Puts.{front, within}
+use Rattle.contacts.proofs.Contact.{contact_room}
 use Rattle.contacts.proofs.contacts.read_contact.Goals as goal
 
-pub slice_bounds-put_contact-end : goal.slice_bounds-put_contact-end
-slice_bounds-put_contact-end c = search (contact_room, filled, rules)
-
-pub put_contact-len-requires : goal.put_contact-len-requires
-put_contact-len-requires c = search (contact_room, filled, rules)
+pub by-requires : goal.by-requires
+by-requires c = search (rules, contact_room, within) parts 8
 
 pub returns : goal.returns
-returns c = search (contact_room, filled, rules)
+returns c = c.by.ensures _ (λ room full len h e. search (rules, front))

@@ -10,11 +10,8 @@ read_name-requires c = search host_laws
 pub returns-then-has_byte : goal.returns-then-has_byte
 returns-then-has_byte c = search host_laws
 
-pub slice_bounds-put_joined-end : goal.slice_bounds-put_joined-end
-slice_bounds-put_joined-end c = search host_laws
-
-pub put_joined-len-requires : goal.put_joined-len-requires
-put_joined-len-requires c = search host_laws
+pub by-requires : goal.by-requires
+by-requires c = search host_laws parts 8
 
 pub returns : goal.returns
-returns c = search host_laws
+returns c = c.by.ensures _ (λ room full len h e. search host_laws)

@@ -1,11 +1,10 @@
-use Rattle.names.proofs.Holding.{name_laws}
+use borrow.Author.Rules.{rules}
+use Rattle.buffer.proofs.Puts.{front, within}
+use Rattle.names.proofs.Holding.{name_short}
 use Rattle.names.proofs.names.read_name.Goals as goal
 
-pub slice_bounds-put_name-end : goal.slice_bounds-put_name-end
-slice_bounds-put_name-end c = search name_laws
-
-pub put_name-len-requires : goal.put_name-len-requires
-put_name-len-requires c = search name_laws
+pub by-requires : goal.by-requires
+by-requires c = search (rules, name_short, within) parts 8
 
 pub returns : goal.returns
-returns c = search name_laws
+returns c = c.by.ensures _ (λ room full len h e. search (rules, front))

@@ -1,0 +1,7 @@
+-- What a function that fills a buffer leaves there.
+use Rattle.std.specs.Prelude.{◌≡◌, List, ℕ, length}
+use Rattle.std.specs.Borrow.{MutBor}
+
+-- P holds of the bytes and of the answer, whatever a call with n bytes leaves and answers
+abbrev pub EachFilling : ℕ → (MutBor (List ℕ) → ℕ → MutBor (List ℕ) → Type 0) → (List ℕ → ℕ → Type 0) → Type 0
+EachFilling n post P = (room full : MutBor (List ℕ)) (len : ℕ) → length room.now ≡ n → post room len full → P full.now len
