@@ -5,11 +5,27 @@ use Prim.Native.Nat.{ℕ, ◌+◌, ◌-◌, ◌<◌, ◌≤◌}
 use native.Mathlib.Numerals.{add-one}
 use native.Mathlib.Omega.{arith}
 use borrow.Author.Rules.{rules}
-use lib.ListN.{length, get_or, take, drop, set, length-append, length-drop, length-map, drop_of_length-le}
-use lib.Seq.{take-suc, take_all, length-take-le, take_at, drop_at, drop-drop, get_or-append_seam}
-use Rattle.wire.proofs.Steps.{left_at, put_front, take_put}
+use lib.ListN.{length, get_or, take, drop, set, length-append, length-drop, length-map}
+use lib.Seq.{take-suc, take_all, length-take-le, take_at, drop_at, drop-drop}
+use Rattle.wire.proofs.Steps.{put_front, take_put}
 use Rattle.wire.proofs.Parts.{lent_at, back_at, tail_lent, tail_back}
 use Rattle.buffer.specs.Put.{IsPut}
+
+-- a loop that stores the image of each byte of s, one after the other
+module _ (f : ℕ → ℕ) where
+  abbrev pub Mapped : List ℕ → List ℕ → List ℕ → ℕ → Type 0
+  Mapped s d out i = out ≡ map f (take i s) ++ drop i d
+
+  pub mapped_more : (s d out : List ℕ) (i b : ℕ) → Mapped s d out i → b ≡ f (get_or s i 0) → i < length s → length s ≤ length d → Mapped s d (set out i b) (i + 1)
+  mapped_more s d out i b e q h k =
+      let m : map f (take (i + 1) s) ≡ map f (take i s) ++ f (get_or s i 0) ∷ [] = rw (add-one, take-suc s i 0 h, map-append) in
+      rw (e, q, m) (put_front (map f (take i s)) d i (f (get_or s i 0)) (length-map (take i s) f ∙ length-take-le i s (omega arith)) (omega arith))
+
+  pub mapped_all : (s d out : List ℕ) (i : ℕ) → Mapped s d out i → length s ≤ i → length s ≤ length d → i ≤ length s → IsPut (map f s) d out (length s)
+  mapped_all s d out i e h m k =
+      let l : length (map f s) ≡ length s = length-map s f in
+      let q : i ≡ length s = omega arith in
+      record { count = sym l; room = omega arith; holds = rw l (e ∙ rw (take_all i s h, q)) }
 
 -- nothing, and a store behind what was put
 pub nothing : (d : List ℕ) → IsPut [] d d 0
@@ -59,31 +75,6 @@ module _ (x d e : List ℕ) (r : ℕ) (p : IsPut x d e r) where
   -- the same, where the two are written as one: the list comes last, so that the search knows both parts before it compares
   pub then_is : (y f z : List ℕ) (k : ℕ) → IsPut y (lent_at r e) f k → x ++ y ≡ z → IsPut z d (back_at r e f) (r + k)
   then_is y f z k q w = rw w at (then y f k q)
-
--- a loop over what was put that changes each byte to its image
-module _ (f : ℕ → ℕ) where
-  abbrev pub Changed : List ℕ → List ℕ → ℕ → Type 0
-  Changed s e i = e ≡ map f (take i s) ++ drop i s
-
-  changed_length : (s : List ℕ) (i : ℕ) → i < length s → length (map f (take i s)) ≡ i
-  changed_length s i h = length-map (take i s) f ∙ length-take-le i s (omega arith)
-
-  not_yet : (s : List ℕ) (i : ℕ) → i < length s → get_or (map f (take i s) ++ drop i s) i 0 ≡ get_or s i 0
-  not_yet s i h =
-      let x = map f (take i s) in
-      rw (left_at s i h) (ap (λ (k : ℕ). get_or (x ++ get_or s i 0 ∷ drop (i + 1) s) k 0) (sym (changed_length s i h)) ∙ get_or-append_seam x (get_or s i 0) (drop (i + 1) s) 0)
-
-  pub changed_more : (s e : List ℕ) (i b : ℕ) → Changed s e i → b ≡ f (get_or e i 0) → i < length s → Changed s (set e i b) (i + 1)
-  changed_more s e i b q w h =
-      let m : map f (take (i + 1) s) ≡ map f (take i s) ++ f (get_or s i 0) ∷ [] = rw (add-one, take-suc s i 0 h, map-append) in
-      rw (w, q, not_yet s i h, m) (put_front (map f (take i s)) s i (f (get_or s i 0)) (changed_length s i h) h)
-
-  pub changed_all : (x d out e : List ℕ) (n i : ℕ) → IsPut x d out n → Changed (take n out) e i → length (take n out) ≤ i → IsPut (map f x) d (e ++ drop n out) n
-  changed_all x d out e n i p q h =
-      let l : length (map f x) ≡ length x = length-map x f in
-      let w : e ≡ map f x = q ∙ rw (take_all i (take n out) h, drop_of_length-le (take n out) h, front x d out n p, append-nil) in
-      let b : drop n out ≡ drop (length x) d = ap (λ (t : List ℕ). drop n t) p.holds ∙ drop_at x (drop (length x) d) n (sym p.count) in
-      record { count = rw l p.count; room = rw l p.room; holds = rw (l, w, b) }
 
 -- a buffer that is filled by what was put at its front
 pub filled : (x d e held : List ℕ) (r : ℕ) → IsPut x d e r → held ≡ take r e → held ≡ x

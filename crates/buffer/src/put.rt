@@ -21,9 +21,8 @@ pub fn put_lowered(out: &mut [u8], source: &[u8]) -> usize
     ensures value { result ≡ length source.now }
 {
     let table = letter_table();
-    let n = put_bytes(out, source);
-    for b in out[..n].iter_mut() {
-        *b = lowered_by(&table, *b);
+    for (i, &b) in source.iter().enumerate() {
+        out[i] = lowered_by(&table, b);
     }
-    n
+    source.len()
 }

@@ -9,7 +9,8 @@ use names::names::Name;
 
 const HOSTMASTER: [u8; 11] = *b"\x0ahostmaster";
 
-// The name of a zone's contact: hostmaster, and the owner behind it.
+// The name of a zone's contact: hostmaster, and the owner behind it. Out of line, as put_name.
+#[inline(never)]
 fn put_contact(out: &mut [u8], owner: &[u8]) -> usize
     requires { 11 + length owner.now ≤ length out.old }
     ensures put { IsPut (contact_of owner.now) out.old out.new result }

@@ -23,7 +23,8 @@ pub fn put_label(out: &mut [u8], text: &[u8]) -> usize
     1 + put_bytes(&mut out[1..], text)
 }
 
-// The name on the wire, at the front of out: its labels, and a zero.
+// The name on the wire, at the front of out: its labels, and a zero. Out of line: what it fills is then moved less.
+#[inline(never)]
 fn put_name(out: &mut [u8], text: &[u8]) -> usize
     requires { (is_named (name_of text.now) ≡ true) × (length (wire_of text.now) ≤ length out.old) }
     ensures { IsPut (wire_of text.now) out.old out.new result }

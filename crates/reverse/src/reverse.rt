@@ -59,7 +59,8 @@ fn put_labels<F: Fn(u8) -> Filled<4>>(out: &mut [u8], address: &[u8], labels_of:
     used
 }
 
-// The name under which an address is looked up.
+// The name under which an address is looked up. Out of line, as put_name.
+#[inline(never)]
 fn put_reverse_name(out: &mut [u8], address: &[u8]) -> usize
     requires { 4 * length address.now + 14 ≤ length out.old }
     ensures { IsPut (reverse_name address.now) out.old out.new result }
