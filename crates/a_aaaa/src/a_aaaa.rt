@@ -1,30 +1,26 @@
 // The record of an address: A, or AAAA.
-ghost use Rattle.std.specs.Prelude.{◌≡◌, ◌≤◌, eqb, length};
-ghost use Rattle.rules.specs.Lists.{pick};
+ghost use Rattle.std.specs.Prelude.{◌≤◌, length};
 ghost use Rattle.rules.specs.Records.{address_records};
 ghost use Rattle.rules.specs.Bytes.{bytes_of};
 ghost use Rattle.buffer.specs.Put.{IsPut};
-ghost use Rattle.addresses.specs.HeldAddress.{held_address, IsHeld};
+ghost use Rattle.addresses.specs.HeldAddress.{held_address};
 
-use addresses::addresses::AddressRead;
+use addresses::address::Address;
 use records::resources::put_resource;
 use rules::quantities::Shared;
 
-fn address_type(len: usize) -> u16
-    ensures { result ≡ pick (eqb len 4) 1 28 }
-{
-    if len == 4 { 1 } else { 28 }
-}
-
-pub fn put_address(out: &mut [u8], owner: &[u8], address: AddressRead, shared: Shared) -> usize
-    requires { IsHeld address × (length (bytes_of (address_records shared owner.now (held_address address))) ≤ length out.old) }
+pub fn put_address(
+    out: &mut [u8],
+    owner: &[u8],
+    address: Option<Address>,
+    shared: Shared,
+) -> usize
+    requires { length (bytes_of (address_records shared owner.now (held_address address))) ≤ length out.old }
     ensures { IsPut (bytes_of (address_records shared owner.now (held_address address))) out.old out.new result }
 {
-    let len = address.len;
-    if len == 0 {
-        return 0;
+    match address {
+        None => 0,
+        Some(Address::V4(bytes)) => put_resource(out, owner, 1, shared, &bytes),
+        Some(Address::V6(bytes)) => put_resource(out, owner, 28, shared, &bytes),
     }
-    let bytes = address.bytes;
-    let rtype = address_type(len);
-    put_resource(out, owner, rtype, shared, &bytes[..len])
 }

@@ -15,8 +15,7 @@ fn put_contact(out: &mut [u8], owner: &[u8]) -> usize
     ensures put { IsPut (contact_of owner.now) out.old out.new result }
     ensures value { result ≡ 11 + length owner.now }
 {
-    let hostmaster = HOSTMASTER;
-    let used = put_bytes(out, &hostmaster);
+    let used = put_bytes(out, &HOSTMASTER);
     used + put_bytes(&mut out[used..], owner)
 }
 

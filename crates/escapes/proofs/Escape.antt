@@ -1,168 +1,157 @@
--- The laws of a text: a byte that stands for itself, and a backslash with three octal digits.
-use mathlib.Core.Path.{◌≡◌, refl, ◌∙◌, sym}
-use mathlib.Core.Bool.{Bool, true, false, ◌&&◌}
-use mathlib.Core.List.{List, [], ◌∷◌}
-use Rattle.std.specs.Prelude.{Option, Some, None}
-use Prim.Native.Nat.{ℕ, ◌+◌, ◌-◌, ◌*◌, ◌<◌, ◌≤◌}
-use native.Mathlib.Omega.{arith}
-use borrow.Author.Rules.{rules}
-use borrow.Author.Tests.{eq-eqb, ne_eqb, eqb-true, eqb-false}
-use lib.Dec.{leb, eqb}
-use lib.ListN.{length, get_or, drop, length-drop}
-use lib.Seq.{drop-drop}
-use Rattle.rules.specs.Lists.{pick, value_or, is_some}
+-- The laws of a text's front: it is the rules' own reading.
+use Rattle.std.proofs.Common.{◌≡◌, refl, ap, ◌∙◌, sym, ℕ, suc, ◌+◌, ◌-◌, ◌*◌, ◌<◌, ◌≤◌, List, [], ◌∷◌, length, get_or, take, drop, Option, Some, None, option_map, Bool, true, false, ◌&&◌, arith, rules, leb, eqb}
+use Rattle.std.proofs.lemmas.Option.{none-some}
+use Rattle.std.proofs.lemmas.List.{take_rest}
+use borrow.Author.Tests.{le-leb, lt-leb, eq-eqb, ne_eqb}
+use Rattle.rules.specs.Lists.{pick}
 use Rattle.rules.specs.Fields.{octal, onto_text, text_of}
-use Rattle.wire.proofs.Steps.{left_at}
-use Rattle.escapes.specs.Views.{escape_read}
-use Rattle.escapes.specs.TextSteps.{escape_of, escape_in, escapes_at, step_at, byte_at, IsStep}
-use Rattle.escapes.specs.declared.texts.EscapeRead.{EscapeRead}
+use Rattle.escapes.specs.TextSteps.{escape_of, escaped_front, front_of}
 
--- a byte in front of a text, where there is one
-abbrev onto : Option ℕ → Option (List ℕ) → Option (List ℕ)
-onto None t = None
-onto (Some b) t = onto_text b t
+-- what a front and what is behind it read as
+unfoldable pub from_front : Option (ℕ × List ℕ) → Option (List ℕ)
+from_front None = None
+from_front (Some p) = onto_text p.0 (text_of p.1)
 
-plain_text : (b : ℕ) (bs : List ℕ) → (b ≡ 92 → ⊥) → text_of (b ∷ bs) ≡ onto_text b (text_of bs)
-unfolding text_of onto_text pick
-plain_text b [] h = rw (ne_eqb b 92 h)
-plain_text b (c ∷ []) h = rw (ne_eqb b 92 h)
-plain_text b (c ∷ d ∷ []) h = rw (ne_eqb b 92 h)
-plain_text b (c ∷ d ∷ e ∷ bs) h = rw (ne_eqb b 92 h)
-
-escaped_text : (b : ℕ) (bs : List ℕ) → b ≡ 92 → text_of (b ∷ bs) ≡ onto (escape_in (b ∷ bs)) (text_of (drop 3 bs))
-unfolding text_of escape_in escape_of pick
-escaped_text b [] h = rw (eq-eqb b 92 h)
-escaped_text b (c ∷ []) h = rw (eq-eqb b 92 h)
-escaped_text b (c ∷ d ∷ []) h = rw (eq-eqb b 92 h)
-escaped_text b (c ∷ d ∷ e ∷ bs) h = rw (eq-eqb b 92 h) (by_test (leb 48 c && leb c 51 && octal d && octal e))
+pub text_is : (b : ℕ) (t : List ℕ) → text_of (b ∷ t) ≡ from_front (front_of (b ∷ t))
+unfolding text_of front_of escaped_front from_front onto_text pick escape_of
+text_is b [] = by (eqb b 92)
   where
-    by_test : (t : Bool) → pick t (onto_text ((c - 48) * 64 + (d - 48) * 8 + (e - 48)) (text_of bs)) None ≡ onto (pick t (Some ((c - 48) * 64 + (d - 48) * 8 + (e - 48))) None) (text_of bs)
-    by_test true = refl
-    by_test false = refl
-
--- a text at i: a byte that stands for itself, or an escape
-module _ (s : List ℕ) (i : ℕ) (h : i < length s) where
-  plain_at : (get_or s i 0 ≡ 92 → ⊥) → text_of (drop i s) ≡ onto_text (get_or s i 0) (text_of (drop (i + 1) s))
-  plain_at q = rw (left_at s i h) (plain_text (get_or s i 0) (drop (i + 1) s) q)
-
-  escaped_at : get_or s i 0 ≡ 92 → text_of (drop i s) ≡ onto (escape_in (drop i s)) (text_of (drop (i + 4) s))
-  escaped_at q =
-      let p : i + 1 + 3 ≡ i + 4 = omega arith in
-      rw (left_at s i h, ← p, ← drop-drop 3 (i + 1) s) (escaped_text (get_or s i 0) (drop (i + 1) s) q)
-
-cut_off_is : (s : List ℕ) (i : ℕ) → length s - i < 4 → escape_in (drop i s) ≡ None
-unfolding escape_in
-cut_off_is s i h = short (drop i s) (simp length-drop h)
+    by : (u : Bool) → pick u None (Some (b ∷ [])) ≡ from_front (pick u None (Some (b, [])))
+    by true = refl
+    by false = refl
+text_is b (c ∷ []) = by (eqb b 92)
   where
-    short : (t : List ℕ) → length t < 4 → escape_in t ≡ None
-    short [] h = refl
-    short (b ∷ []) h = refl
-    short (b ∷ c ∷ []) h = refl
-    short (b ∷ c ∷ d ∷ []) h = refl
-    short (b ∷ c ∷ d ∷ e ∷ t) h = absurd (omega arith)
-
--- the escape of three bytes
-three_digits : (s : List ℕ) (i : ℕ) → 4 ≤ length s - i → escape_of (get_or s (i + 1) 0) (get_or s (i + 2) 0) (get_or s (i + 3) 0) ≡ escape_in (drop i s)
-unfolding escape_in
-three_digits s i h =
-    let a : i + 1 + 1 ≡ i + 2 = omega arith in
-    let b : i + 2 + 1 ≡ i + 3 = omega arith in
-    rw (left_at s i (omega arith), left_at s (i + 1) (omega arith), a, left_at s (i + 2) (omega arith), b, left_at s (i + 3) (omega arith))
-
-pub cut_off : (s : List ℕ) (i : ℕ) → length s - i < 4 → false ≡ escapes_at s i
-unfolding escapes_at is_some
-cut_off s i h = rw (cut_off_is s i h)
-
-module _ (s : List ℕ) (i : ℕ) (r : EscapeRead) (p : escape_read r ≡ escape_of (get_or s (i + 1) 0) (get_or s (i + 2) 0) (get_or s (i + 3) 0)) (h : 4 ≤ length s - i) where
-  pub good : (v : ℕ) → r ≡ EscapeRead.Byte v → true ≡ escapes_at s i
-  unfolding escapes_at is_some
-  good v q = rw (← three_digits s i h, ← p, q)
-
-  pub bad : r ≡ EscapeRead.Bad → false ≡ escapes_at s i
-  unfolding escapes_at is_some
-  bad q = rw (← three_digits s i h, ← p, q)
-
-  pub good_byte : (v : ℕ) → r ≡ EscapeRead.Byte v → v ≡ value_or 0 (escape_in (drop i s))
-  unfolding value_or
-  good_byte v q = rw (← three_digits s i h, ← p, q)
-
-  pub no_byte : r ≡ EscapeRead.Bad → 0 ≡ value_or 0 (escape_in (drop i s))
-  unfolding value_or
-  no_byte q = rw (← three_digits s i h, ← p, q)
-
-pub cut_off_byte : (s : List ℕ) (i : ℕ) → length s - i < 4 → 0 ≡ value_or 0 (escape_in (drop i s))
-unfolding value_or
-cut_off_byte s i h = rw (cut_off_is s i h)
-
-pub ruleset byte_laws = (cut_off_byte, good_byte, no_byte, rules)
-
-pub ruleset escape_laws = (cut_off, good, bad, rules)
-
--- an escape has four bytes
-within : (s : List ℕ) (i : ℕ) (r : Bool) → r ≡ escapes_at s i → r ≡ true → i + 4 ≤ length s
-unfolding escapes_at escape_in is_some
-within s i r p q = let l = four (drop i s) (sym p ∙ q) in omega (arith, length-drop i s)
+    by : (u : Bool) → pick u None (onto_text b (text_of (c ∷ []))) ≡ from_front (pick u None (Some (b, c ∷ [])))
+    by true = refl
+    by false = refl
+text_is b (c ∷ d ∷ []) = by (eqb b 92)
   where
-    four : (t : List ℕ) → is_some (escape_in t) ≡ true → 4 ≤ length t
-    four [] e = absurd (let z : ◌≡◌ {A = ℕ} 0 1 = cc in omega arith)
-    four (b ∷ []) e = absurd (let z : ◌≡◌ {A = ℕ} 0 1 = cc in omega arith)
-    four (b ∷ c ∷ []) e = absurd (let z : ◌≡◌ {A = ℕ} 0 1 = cc in omega arith)
-    four (b ∷ c ∷ d ∷ []) e = absurd (let z : ◌≡◌ {A = ℕ} 0 1 = cc in omega arith)
-    four (b ∷ c ∷ d ∷ e ∷ t) q = omega arith
+    by : (u : Bool) → pick u None (onto_text b (text_of (c ∷ d ∷ []))) ≡ from_front (pick u None (Some (b, c ∷ d ∷ [])))
+    by true = refl
+    by false = refl
+text_is b (c ∷ d ∷ e ∷ t) = by (eqb b 92) (leb 48 c && leb c 51 && octal d && octal e)
+  where
+    x : ℕ
+    x = (c - 48) * 64 + (d - 48) * 8 + (e - 48)
 
-module _ (s : List ℕ) (i : ℕ) (h : i < length s) where
-  pub one_byte : (get_or s i 0 ≡ 92 → ⊥) → IsStep s i 1
-  unfolding step_at pick
-  one_byte q = record { says = rw (ne_eqb (get_or s i 0) 92 q); fits = omega arith }
+    by : (u v : Bool) → pick u (pick v (onto_text x (text_of t)) None) (onto_text b (text_of (c ∷ d ∷ e ∷ t)))
+        ≡ from_front (pick u (option_map (λ y. (y, t)) (pick v (Some x) None)) (Some (b, c ∷ d ∷ e ∷ t)))
+    by true true = refl
+    by true false = refl
+    by false v = refl
 
-  module _ (r : Bool) (p : r ≡ escapes_at s i) (q : get_or s i 0 ≡ 92) where
-    pub four_bytes : r ≡ true → IsStep s i 4
-    unfolding step_at pick
-    four_bytes w = record { says = rw (eq-eqb (get_or s i 0) 92 q, ← p, w); fits = within s i r p w }
+module _ (c d e : ℕ) where
+  pub good : 48 ≤ c → c ≤ 51 → 48 ≤ d → d ≤ 55 → 48 ≤ e → e ≤ 55 → Some ((c - 48) * 64 + (d - 48) * 8 + (e - 48)) ≡ escape_of c d e
+  unfolding escape_of octal pick
+  good h i j k l m = rw (le-leb 48 c h, le-leb c 51 i, le-leb 48 d j, le-leb d 55 k, le-leb 48 e l, le-leb e 55 m) refl
 
-    pub no_bytes : r ≡ false → IsStep s i 0
-    unfolding step_at pick
-    no_bytes w = record { says = rw (eq-eqb (get_or s i 0) 92 q, ← p, w); fits = omega arith }
+  pub first_low : c < 48 → None ≡ escape_of c d e
+  unfolding escape_of pick
+  first_low h = rw (lt-leb 48 c h) refl
 
-  pub plain_byte : (get_or s i 0 ≡ 92 → ⊥) → get_or s i 0 ≡ byte_at s i
-  unfolding byte_at pick
-  plain_byte q = rw (ne_eqb (get_or s i 0) 92 q)
+  pub first_high : 48 ≤ c → 51 < c → None ≡ escape_of c d e
+  unfolding escape_of pick
+  first_high g h = rw (le-leb 48 c g, lt-leb c 51 h) refl
 
-  pub escaped_byte : (r : ℕ) → r ≡ value_or 0 (escape_in (drop i s)) → get_or s i 0 ≡ 92 → r ≡ byte_at s i
-  unfolding byte_at pick
-  escaped_byte r p q = rw (eq-eqb (get_or s i 0) 92 q) p
+  module _ (h : 48 ≤ c) (i : c ≤ 51) where
+    pub second_low : d < 48 → None ≡ escape_of c d e
+    unfolding escape_of octal pick
+    second_low l = rw (le-leb 48 c h, le-leb c 51 i, lt-leb 48 d l) refl
 
-pub ruleset step_laws = (one_byte, four_bytes, no_bytes, rules)
+    pub second_high : 48 ≤ d → 55 < d → None ≡ escape_of c d e
+    unfolding escape_of octal pick
+    second_high k l = rw (le-leb 48 c h, le-leb c 51 i, le-leb 48 d k, lt-leb d 55 l) refl
 
-is_none : (v : Option ℕ) → is_some v ≡ false → v ≡ None
-unfolding is_some
-is_none None h = refl
-is_none (Some b) h = absurd (let z : ◌≡◌ {A = ℕ} 0 1 = cc in omega arith)
+    module _ (j : 48 ≤ d) (k : d ≤ 55) where
+      pub third_low : e < 48 → None ≡ escape_of c d e
+      unfolding escape_of octal pick
+      third_low l = rw (le-leb 48 c h, le-leb c 51 i, le-leb 48 d j, le-leb d 55 k, lt-leb 48 e l) refl
 
--- one byte of what a text stands for is at i, or the text is at fault there
-module _ (s : List ℕ) (i : ℕ) (h : i < length s) where
-  escaped_item : (v : Option ℕ) (t : Option (List ℕ)) → is_some v ≡ true → onto v t ≡ onto_text (value_or 0 v) t
-  unfolding is_some value_or
-  escaped_item None t e = absurd (let z : ◌≡◌ {A = ℕ} 0 1 = cc in omega arith)
-  escaped_item (Some b) t e = refl
+      pub third_high : 48 ≤ e → 55 < e → None ≡ escape_of c d e
+      unfolding escape_of octal pick
+      third_high m l = rw (le-leb 48 c h, le-leb c 51 i, le-leb 48 d j, le-leb d 55 k, le-leb 48 e m, lt-leb e 55 l) refl
 
-  item_by : (u w : Bool) (r : ℕ) → eqb (get_or s i 0) 92 ≡ u → escapes_at s i ≡ w → r ≡ pick u (pick w 4 0) 1 → (r ≡ 0 → ⊥)
-      → text_of (drop i s) ≡ onto_text (byte_at s i) (text_of (drop (i + r) s))
-  unfolding pick escapes_at byte_at
-  item_by false w r a b q z = rw (q, a) (plain_at s i h (eqb-false _ _ a))
-  item_by true true r a b q z = rw (q, a) (escaped_at s i h (eqb-true _ _ a) ∙ escaped_item (escape_in (drop i s)) (text_of (drop (i + 4) s)) b)
-  item_by true false r a b q z = absurd (z q)
+pub ruleset escape_laws = (good, first_low, first_high, second_low, second_high, third_low, third_high, rules)
 
-  pub item : (r : ℕ) → r ≡ step_at s i → (r ≡ 0 → ⊥) → text_of (drop i s) ≡ onto_text (byte_at s i) (text_of (drop (i + r) s))
-  unfolding step_at
-  item r q z = item_by (eqb (get_or s i 0) 92) (escapes_at s i) r refl refl q z
+-- what is behind a backslash
+pub too_short : (t : List ℕ) → length t < 3 → None ≡ escaped_front t
+unfolding escaped_front
+too_short [] h = refl
+too_short (c ∷ []) h = refl
+too_short (c ∷ d ∷ []) h = refl
+too_short (c ∷ d ∷ e ∷ t) h = absurd (omega arith)
 
-  fault_by : (u w : Bool) (r : ℕ) → eqb (get_or s i 0) 92 ≡ u → escapes_at s i ≡ w → r ≡ pick u (pick w 4 0) 1 → r ≡ 0 → text_of (drop i s) ≡ None
-  unfolding pick escapes_at
-  fault_by false w r a b q z = absurd (omega arith)
-  fault_by true true r a b q z = absurd (omega arith)
-  fault_by true false r a b q z = escaped_at s i h (eqb-true _ _ a) ∙ rw (is_none (escape_in (drop i s)) b)
+pub no_escape : (t : List ℕ) → 3 ≤ length t → None ≡ escape_of (get_or t 0 0) (get_or t 1 0) (get_or t 2 0) → None ≡ escaped_front t
+unfolding escaped_front
+no_escape [] h q = absurd (omega arith)
+no_escape (c ∷ []) h q = absurd (omega arith)
+no_escape (c ∷ d ∷ []) h q = absurd (omega arith)
+no_escape (c ∷ d ∷ e ∷ t) h q = rw (← q) refl
 
-  pub fault : (r : ℕ) → r ≡ step_at s i → r ≡ 0 → text_of (drop i s) ≡ None
-  unfolding step_at
-  fault r q z = fault_by (eqb (get_or s i 0) 92) (escapes_at s i) r refl refl q z
+pub escaped : (t : List ℕ) (b : ℕ) → 3 ≤ length t → Some b ≡ escape_of (get_or t 0 0) (get_or t 1 0) (get_or t 2 0) → Some (b, take (length t - 3) (drop 3 t)) ≡ escaped_front t
+unfolding escaped_front
+escaped [] b h q = absurd (omega arith)
+escaped (c ∷ []) b h q = absurd (omega arith)
+escaped (c ∷ d ∷ []) b h q = absurd (omega arith)
+escaped (c ∷ d ∷ e ∷ t) b h q = rw (← q, take_rest (c ∷ d ∷ e ∷ t) 3) refl
+
+-- the front of a text
+pub no_front : (t : List ℕ) → length t < 1 → None ≡ front_of t
+unfolding front_of
+no_front [] h = refl
+no_front (b ∷ t) h = absurd (omega arith)
+
+pub backslash : (t : List ℕ) → 1 ≤ length t → get_or t 0 0 ≡ 92 → escaped_front (take (length t - 1) (drop 1 t)) ≡ front_of t
+unfolding front_of pick
+backslash [] h q = absurd (omega arith)
+backslash (b ∷ t) h q = rw (eq-eqb b 92 q, take_rest (b ∷ t) 1) refl
+
+pub plain : (t : List ℕ) → 1 ≤ length t → (get_or t 0 0 ≡ 92 → ⊥) → Some (get_or t 0 0, take (length t - 1) (drop 1 t)) ≡ front_of t
+unfolding front_of pick
+plain [] h q = absurd (omega arith)
+plain (b ∷ t) h q = rw (ne_eqb b 92 q, take_rest (b ∷ t) 1) refl
+
+-- how many bytes are behind a front
+behind_size : Option (ℕ × List ℕ) → ℕ
+behind_size None = 0
+behind_size (Some p) = length p.1
+
+escaped_size : (t : List ℕ) → behind_size (escaped_front t) ≤ length t
+unfolding escaped_front behind_size
+escaped_size [] = omega arith
+escaped_size (c ∷ []) = omega arith
+escaped_size (c ∷ d ∷ []) = omega arith
+escaped_size (c ∷ d ∷ e ∷ t) = by (escape_of c d e)
+  where
+    by : (r : Option ℕ) → behind_size (option_map (λ b. (b, t)) r) ≤ suc (suc (suc (length t)))
+    by None = omega arith
+    by (Some b) = omega arith
+
+front_size : (b : ℕ) (t : List ℕ) → behind_size (front_of (b ∷ t)) ≤ length t
+unfolding front_of behind_size pick
+front_size b t = by (eqb b 92) (escaped_size t)
+  where
+    by : (u : Bool) → behind_size (escaped_front t) ≤ length t → behind_size (pick u (escaped_front t) (Some (b, t))) ≤ length t
+    by true h = h
+    by false h = omega arith
+
+module _ (b : ℕ) (rest : List ℕ) where
+  pub front_says : (t : List ℕ) → Some (b, rest) ≡ front_of t → text_of t ≡ onto_text b (text_of rest)
+  unfolding front_of from_front
+  front_says [] e = absurd (none-some _ (sym e))
+  front_says (c ∷ t) e = text_is c t ∙ ap from_front (sym e)
+
+  pub front_shorter : (t : List ℕ) → Some (b, rest) ≡ front_of t → length rest < length t
+  unfolding front_of behind_size
+  front_shorter [] e = absurd (none-some _ (sym e))
+  front_shorter (c ∷ t) e = let q = ap behind_size e in omega (arith, front_size c t, q)
+
+pub front_fault : (t : List ℕ) → (length t ≡ 0 → ⊥) → None ≡ front_of t → text_of t ≡ None
+unfolding from_front
+front_fault [] h e = absurd (h refl)
+front_fault (c ∷ t) h e = text_is c t ∙ ap from_front (sym e)
+
+pub text_end : (t : List ℕ) → length t ≡ 0 → text_of t ≡ Some []
+unfolding text_of
+text_end [] h = refl
+text_end (b ∷ t) h = absurd (omega arith)

@@ -1,2 +1,1 @@
 pub mod TextSteps
-pub mod Views

@@ -5,109 +5,84 @@ ghost use Rattle.rules.specs.Fields.{number_of, largest_short, address_of, prefi
 ghost use Rattle.rules.specs.declared.faults.FieldKind.{FieldKind};
 
 use addresses::addresses::address;
-use codes::codes::{LoRead, lo};
-use escapes::texts::{TextJudged, judge_text};
-use judged_names::judged::{NameJudged, judge_name};
-use numbers::numbers::{NumberRead, number};
+use codes::codes::lo;
+use escapes::texts::judge_text;
+use judged_names::judged::judge_name;
+use numbers::numbers::number;
 use prefixes::prefixes::prefix;
 use rules::faults::{Fault, FieldKind};
 use rules::kinds::Meaning;
-use times::times::{TimeRead, time};
+use times::times::time;
+
+// A field that doesn't read as it should is at fault.
+fn unless<T: Drop>(kind: FieldKind, read: Option<T>) -> Fault
+    ensures { result ≡ unless kind read }
+{
+    match read {
+        Some(_) => Fault::Done,
+        None => Fault::Malformed(kind),
+    }
+}
 
 fn name_fault(text: &[u8]) -> Fault
     ensures { result ≡ name_fault (name_of text.now) }
 {
-    match judge_name(text) {
-        NameJudged::Named(_) => Fault::Done,
-        NameJudged::Misnamed(_, _) => Fault::Malformed(FieldKind::Name),
-    }
+    unless(FieldKind::Name, judge_name(text).ok())
 }
 
 fn address_fault(text: &[u8]) -> Fault
     ensures { result ≡ unless FieldKind.Address (address_of text.now) }
 {
-    let read = address(text);
-    let len = read.len;
-    if len == 0 {
-        return Fault::Malformed(FieldKind::Address);
-    }
-    Fault::Done
+    unless(FieldKind::Address, address(text))
 }
 
 fn prefix_fault(text: &[u8]) -> Fault
     ensures { result ≡ unless FieldKind.Address (prefix_of text.now) }
 {
-    let read = prefix(text);
-    let good = read.good;
-    if good {
-        return Fault::Done;
-    }
-    Fault::Malformed(FieldKind::Address)
+    unless(FieldKind::Address, prefix(text))
 }
 
 fn number_fault(text: &[u8], limit: u64) -> Fault
     ensures { result ≡ unless FieldKind.Number (number_of limit text.now) }
 {
-    match number(text, limit) {
-        NumberRead::Good(_) => Fault::Done,
-        NumberRead::Bad => Fault::Malformed(FieldKind::Number),
-    }
+    unless(FieldKind::Number, number(text, limit))
 }
+
+// The types that no line of its own may give.
+const RESERVED: [u64; 7] = [0, 2, 5, 6, 12, 15, 252];
 
 fn is_reserved(n: u64) -> bool
     ensures { result ≡ reserved n }
 {
-    match n {
-        0 => true,
-        2 => true,
-        5 => true,
-        6 => true,
-        12 => true,
-        15 => true,
-        252 => true,
-        _ => false,
-    }
+    RESERVED.contains(&n)
 }
 
 fn type_fault(text: &[u8]) -> Fault
     ensures { result ≡ type_fault (number_of largest_short text.now) }
 {
     match number(text, 65535) {
-        NumberRead::Good(n) => {
-            if is_reserved(n) {
-                return Fault::ReservedType;
-            }
-            Fault::Done
-        },
-        NumberRead::Bad => Fault::Malformed(FieldKind::Number),
+        Some(n) if is_reserved(n) => Fault::ReservedType,
+        Some(_) => Fault::Done,
+        None => Fault::Malformed(FieldKind::Number),
     }
 }
 
 fn time_fault(text: &[u8]) -> Fault
     ensures { result ≡ unless FieldKind.Time (time_of text.now) }
 {
-    match time(text) {
-        TimeRead::Good(_) => Fault::Done,
-        TimeRead::Bad => Fault::Malformed(FieldKind::Time),
-    }
+    unless(FieldKind::Time, time(text))
 }
 
 fn lo_fault(text: &[u8]) -> Fault
     ensures { result ≡ unless FieldKind.Lo (lo_of text.now) }
 {
-    match lo(text) {
-        LoRead::Good(_) => Fault::Done,
-        LoRead::Bad => Fault::Malformed(FieldKind::Lo),
-    }
+    unless(FieldKind::Lo, lo(text))
 }
 
 fn text_fault(text: &[u8]) -> Fault
     ensures { result ≡ unless FieldKind.Escape (text_of text.now) }
 {
-    match judge_text(text) {
-        TextJudged::Good(_) => Fault::Done,
-        TextJudged::Bad => Fault::Malformed(FieldKind::Escape),
-    }
+    unless(FieldKind::Escape, judge_text(text))
 }
 
 // An empty field is at fault before all else.

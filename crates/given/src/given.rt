@@ -7,26 +7,8 @@ ghost use Rattle.given.specs.Given.{HostGood};
 
 use buffer::filled::Filled;
 use buffer::put::put_bytes;
-use names::names::{Name, read_name};
+use names::names::{Name, put_label, read_name};
 use pieces::pieces::has_byte;
-
-// The text as one label, at the front of out; an empty text is no label.
-fn put_label(out: &mut [u8], text: &[u8]) -> usize
-    requires { (length text.now ≤ 63) × (length (label text.now) ≤ length out.old) }
-    ensures { IsPut (label text.now) out.old out.new result }
-{
-    let n = text.len();
-    if n == 0 {
-        return 0;
-    }
-    let mut i: usize = 0;
-    while i < n {
-        out[i + 1] = text[i];
-        i += 1;
-    }
-    out[0] = n as u8;
-    n + 1
-}
 
 // A label, a second one and a name, one behind the other.
 fn put_joined(out: &mut [u8], x: &[u8], middle: &[u8], owner: &[u8]) -> usize
@@ -43,7 +25,7 @@ pub fn read_host(owner: &[u8], x: &[u8], middle: &[u8]) -> Name
     requires { HostGood owner.now x.now middle.now }
     ensures { result ≡ host_name middle.now owner.now x.now }
 {
-    if has_byte(x, 46) {
+    if has_byte(x, b'.') {
         return read_name(x);
     }
     let mut bytes = [0u8; 255];

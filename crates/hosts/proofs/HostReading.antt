@@ -9,31 +9,18 @@ use lib.ListN.{length}
 use Rattle.rules.specs.Lists.{has}
 use Rattle.rules.specs.Kinds.{common, meanings, field_count, field_at}
 use Rattle.rules.specs.Names.{name_of, wire_of}
-use Rattle.rules.specs.Fields.{address_of, fault_of}
-use Rattle.rules.specs.Records.{ns, mx, srv, host_name, joined_names, address_in}
+use Rattle.rules.specs.Fields.{fault_of}
+use Rattle.rules.specs.Records.{ns, mx, srv, host_name, joined_names}
 use Rattle.rules.specs.Answers.{is_done}
 use Rattle.rules.specs.declared.kinds.Kind.{Kind}
 use Rattle.rules.specs.declared.kinds.Meaning.{Meaning}
 use Rattle.rules.proofs.Lists.{all_head}
 use Rattle.rules.proofs.Fields.{host_label}
 use Rattle.names.specs.Views.{is_named}
-use Rattle.addresses.specs.Addresses.{IsAddress}
-use Rattle.addresses.specs.declared.addresses.AddressRead.{AddressRead}
 use Rattle.values.specs.Ready.{Ready}
 use Rattle.given.specs.Given.{HostGood}
-use Rattle.addresses.specs.HeldAddress.{held_address, IsHeld}
 use Rattle.hosts.specs.HostLines.{middle_of, names_host}
-use Rattle.addresses.proofs.HoldingAddress.{held_address_lem, is_held}
 use Rattle.values.proofs.Readiness.{named_done, done, joined_short}
-
--- ---- values of a field by its text
-
-module _ (t x : List ℕ) (e : t ≡ x) (r : AddressRead) (p : IsAddress (address_of t) r) where
-  pub address_says : held_address r ≡ address_in x
-  address_says = held_address_lem t r p ∙ ap address_in e
-
-  pub address_held : IsHeld r
-  address_held = is_held t r p
 
 -- ---- a line that is ready
 

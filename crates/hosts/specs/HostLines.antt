@@ -4,7 +4,7 @@ use Rattle.rules.specs.Kinds.{field_at}
 use Rattle.rules.specs.Names.{wire_of}
 use Rattle.rules.specs.Records.{Record, ns, mx, srv, shared_of, resource_of, host_name, address_records, address_in}
 use Rattle.rules.specs.declared.kinds.Kind.{Kind}
-use Rattle.addresses.specs.HeldAddress.{held_address, IsHeld}
+use Rattle.addresses.specs.HeldAddress.{held_address}
 use Rattle.hosts.specs.declared.hosts.HostLine.{HostLine}
 
 -- the label that stands between x and the fqdn
@@ -45,7 +45,6 @@ pub record IsHostLine (kind : Kind) (fields : List (List ℕ)) (h : HostLine) : 
   pub owner : h.owner ≡ wire_of (field_at fields 0)
   pub host : h.host ≡ host_name (middle_of kind) (wire_of (field_at fields 0)) (field_at fields 2)
   pub address : held_address h.address ≡ address_in (field_at fields 1)
-  pub held : IsHeld h.address
 
 -- the records of such a line behind its SOA: a record that names the host behind some bytes, and the host's address
 abbrev pub host_records : HostLine → ℕ → List ℕ → List Record

@@ -1,14 +1,16 @@
 // What a line with an address or a field x says of hosts.
-ghost use Rattle.std.specs.Prelude.{◌≡◌, true, ◌<◌};
+ghost use Rattle.std.specs.Prelude.{◌≡◌, true, ◌<◌, option_map};
 ghost use Rattle.rules.specs.Kinds.{field_at};
 ghost use Rattle.rules.specs.Names.{name_of, wire_of};
-ghost use Rattle.rules.specs.Records.{host_name, address_in};
+ghost use Rattle.rules.specs.Fields.{address_of};
+ghost use Rattle.rules.specs.Records.{host_name};
 ghost use Rattle.names.specs.Views.{is_named};
 ghost use Rattle.given.specs.Given.{HostGood};
-ghost use Rattle.addresses.specs.HeldAddress.{held_address, IsHeld};
+ghost use Rattle.addresses.specs.Address.{address_bytes};
 ghost use Rattle.values.specs.Ready.{Ready};
 
-use addresses::addresses::{AddressRead, address};
+use addresses::addresses::address;
+use addresses::address::Address;
 use given::given::read_host;
 use names::names::{Name, read_name};
 use rules::kinds::Kind;
@@ -22,7 +24,7 @@ pub struct HostLine {
     pub shared: Shared,
     pub owner: Name,
     pub host: Name,
-    pub address: AddressRead,
+    pub address: Option<Address>,
 }
 
 // The name that field i is.
@@ -34,8 +36,8 @@ pub fn name_at(fields: &Fields, i: usize) -> Name
 }
 
 // The address of field 1.
-pub fn address_of(fields: &Fields) -> AddressRead
-    ensures { (held_address result ≡ address_in (field_at fields.now 1)) × IsHeld result }
+pub fn address_of(fields: &Fields) -> Option<Address>
+    ensures { option_map address_bytes result ≡ address_of (field_at fields.now 1) }
 {
     address(fields.field(1))
 }

@@ -1,83 +1,59 @@
 // The first fault of a line.
-ghost use Rattle.std.specs.Prelude.{◌≡◌, ◌≤◌, ◌<◌, map, length, get_or, take};
+ghost use Rattle.std.specs.Prelude.{◌≡◌, ◌≤◌, length};
 ghost use Rattle.rules.specs.Lists.{split_on};
-ghost use Rattle.rules.specs.Kinds.{field_at};
-ghost use Rattle.rules.specs.Fields.{fault_of};
-ghost use Rattle.rules.specs.Answers.{fields_fault, kind_fault, line_fault};
-ghost use Rattle.splits.specs.Splits.{FieldsOf};
-ghost use Rattle.lines.specs.Meanings.{meaning_of};
+ghost use Rattle.rules.specs.Answers.{whole_line, fields_fault, kind_fault, line_fault};
 
-use crate::meanings::meaning_of;
 use fields::faults::field_fault;
 use joined::joined::joined_fault;
 use kinds::kinds::{is_ignored, kind_of};
 use kinds::strips::stripped;
-use refusals::faults::number;
+use rows::rows::row_of;
 use rules::faults::{Fault, LineFault};
-use rules::kinds::Kind;
-use splits::splits::{Span, field, split};
+use rules::kinds::{Kind, Meaning};
+use splits::splits::{Fields, split};
 
-// The fault of field i, read as the meaning of its code.
-fn fault_at(rest: &[u8], spans: [Span; 11], codes: [u8; 11], i: usize) -> Fault
-    requires { FieldsOf rest.now spans × (i < 11) }
-    ensures { result ≡ fault_of (meaning_of (get_or codes i 0)) (field_at (split_on 58 rest.now) i) }
+// A fault, or none, that is of no field.
+#[tactic(auto, unfolding(rules::specs::Answers::whole_line))]
+fn whole_line(fault: Fault) -> LineFault
+    ensures { result ≡ whole_line fault }
 {
-    let code = codes[i];
-    let meaning = meaning_of(code);
-    let text = field(rest, spans, i);
-    field_fault(meaning, text)
+    LineFault { fault, field: 0 }
 }
 
-// The fields from left to right, as many as the count says.
-fn fields_fault(rest: &[u8], spans: [Span; 11], codes: [u8; 11], count: usize) -> LineFault
-    requires { FieldsOf rest.now spans × (count ≤ 11) }
-    ensures { result ≡ fields_fault 0 (map meaning_of (take count codes)) (split_on 58 rest.now) }
+// The fields from left to right, each read as its meaning.
+fn fields_fault(fields: &Fields, meanings: &[Meaning]) -> LineFault
+    requires { length meanings.now ≤ 11 }
+    ensures { result ≡ fields_fault 0 meanings.now fields.now }
 {
-    let mut i: usize = 0;
-    while i < count {
-        let fault = fault_at(rest, spans, codes, i);
-        if number(fault) == 0 {
-            i += 1;
-        } else {
+    for (i, &meaning) in meanings.iter().enumerate() {
+        let fault = field_fault(meaning, fields.field(i));
+        if fault != Fault::Done {
             return LineFault {
                 fault,
                 field: i + 1,
             };
         }
     }
-    LineFault {
-        fault: Fault::Done,
-        field: 0,
-    }
+    whole_line(Fault::Done)
 }
 
 fn kind_fault(rest: &[u8], kind: Kind) -> LineFault
     requires { length rest.now ≤ 1024 }
     ensures { result ≡ kind_fault kind (split_on 58 rest.now) }
 {
-    let fields = split(rest, kind);
-    let row = fields.row;
-    let count = row.count;
-    if count == 0 {
-        return LineFault {
-            fault: Fault::UnknownKind,
-            field: 0,
-        };
+    let row = row_of(kind);
+    if row.count == 0 {
+        return whole_line(Fault::UnknownKind);
     }
-    if !fields.fits {
-        return LineFault {
-            fault: Fault::TooManyFields,
-            field: 0,
-        };
+    let Some(fields) = split(rest, kind) else {
+        return whole_line(Fault::TooManyFields);
+    };
+    let first = fields_fault(&fields, row.meanings);
+    if first.fault == Fault::Done {
+        joined_fault(&fields, kind)
+    } else {
+        first
     }
-    let spans = fields.spans;
-    let codes = row.meanings;
-    let first = fields_fault(rest, spans, codes, count);
-    let fault = first.fault;
-    if number(fault) == 0 {
-        return joined_fault(rest, spans, kind);
-    }
-    first
 }
 
 pub fn line_fault(line: &[u8]) -> LineFault
@@ -85,24 +61,15 @@ pub fn line_fault(line: &[u8]) -> LineFault
 {
     let length = line.len();
     if 1024 < length {
-        return LineFault {
-            fault: Fault::LineTooLong,
-            field: 0,
-        };
+        return whole_line(Fault::LineTooLong);
     }
     let n = stripped(line);
     if n == 0 {
-        return LineFault {
-            fault: Fault::Done,
-            field: 0,
-        };
+        return whole_line(Fault::Done);
     }
     let first = line[0];
     if is_ignored(first) {
-        return LineFault {
-            fault: Fault::Done,
-            field: 0,
-        };
+        return whole_line(Fault::Done);
     }
     kind_fault(&line[1..n], kind_of(first))
 }

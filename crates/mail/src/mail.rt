@@ -1,22 +1,22 @@
 // The line that names a mail exchanger.
 ghost use Rattle.std.specs.Prelude.{◌≡◌, ◌++◌, ◌+◌, ◌≤◌, length};
-ghost use Rattle.rules.specs.Lists.{split_on, be};
+ghost use Rattle.rules.specs.Lists.{be};
 ghost use Rattle.rules.specs.Records.{resource_of, records_of};
 ghost use Rattle.rules.specs.Bytes.{encode, bytes_of};
 ghost use Rattle.rules.specs.declared.kinds.Kind.{Kind};
 ghost use Rattle.buffer.specs.Put.{IsPut};
 ghost use Rattle.heads.specs.Head.{head_size};
 ghost use Rattle.values.specs.Ready.{Ready};
-ghost use Rattle.hosts.specs.HostLines.{Lendable, host_records};
+ghost use Rattle.hosts.specs.HostLines.{host_records};
 
 use a_aaaa::a_aaaa::put_address;
 use buffer::put::put_bytes;
 use heads::heads::put_head;
-use hosts::hosts::{HostLine, host_line};
-use integers::integers::put_u16;
+use hosts::hosts::HostLine;
+use integers::integers::put_be;
 use rules::kinds::Kind;
 use rules::quantities::Shared;
-use splits::splits::Span;
+use splits::splits::Fields;
 use values::values::short_at;
 
 const MX: [u8; 2] = *b"mx";
@@ -27,31 +27,25 @@ fn put_mx(out: &mut [u8], owner: &[u8], shared: Shared, dist: u16, host: &[u8]) 
     ensures value { result ≡ head_size shared owner.now + (2 + length host.now) }
 {
     let a = put_head(out, owner, 15, shared, 2 + host.len());
-    let b = a + put_u16(&mut out[a..], dist);
+    let b = a + put_be(&mut out[a..], dist);
     b + put_bytes(&mut out[b..], host)
 }
 
 // The mail exchanger and its address.
-fn put_exchanger(out: &mut [u8], line: HostLine, dist: u16) -> usize
-    requires { Lendable line × (length (bytes_of (host_records line 15 (be 2 dist))) ≤ length out.old) }
-    ensures { IsPut (bytes_of (host_records line 15 (be 2 dist))) out.old out.new result }
+fn put_exchanger(out: &mut [u8], line: &HostLine, dist: u16) -> usize
+    requires { length (bytes_of (host_records line.now 15 (be 2 dist))) ≤ length out.old }
+    ensures { IsPut (bytes_of (host_records line.now 15 (be 2 dist))) out.old out.new result }
 {
-    let shared = line.shared;
-    let owner_bytes = line.owner.bytes;
-    let owner_len = line.owner.len;
-    let host_bytes = line.host.bytes;
-    let host_len = line.host.len;
-    let name = &host_bytes[..host_len];
-    let used = put_mx(out, &owner_bytes[..owner_len], shared, dist, name);
-    used + put_address(&mut out[used..], name, line.address, shared)
+    let host = line.host.as_slice();
+    let used = put_mx(out, line.owner.as_slice(), line.shared, dist, host);
+    used + put_address(&mut out[used..], host, line.address, line.shared)
 }
 
-pub fn put_mail_line(out: &mut [u8], rest: &[u8], spans: [Span; 11]) -> usize
-    requires { Ready Kind.Mail rest.now spans × (length (bytes_of (records_of 0 Kind.Mail (split_on 58 rest.now))) ≤ length out.old) }
-    ensures { IsPut (bytes_of (records_of 0 Kind.Mail (split_on 58 rest.now))) out.old out.new result }
+pub fn put_mail_line(out: &mut [u8], fields: &Fields) -> usize
+    requires { Ready Kind.Mail fields.now × (length (bytes_of (records_of 0 Kind.Mail fields.now)) ≤ length out.old) }
+    ensures { IsPut (bytes_of (records_of 0 Kind.Mail fields.now)) out.old out.new result }
 {
-    let mx = MX;
-    let line = host_line(rest, spans, Kind::Mail, &mx);
-    let dist = short_at(rest, spans, 3);
-    put_exchanger(out, line, dist)
+    let line = HostLine::read(fields, Kind::Mail, &MX);
+    let dist = short_at(fields, 3);
+    put_exchanger(out, &line, dist)
 }

@@ -1,2 +1,5 @@
+pub mod Cut
 pub mod Holding
+pub mod Label
+pub mod Parts
 pub mod Wire

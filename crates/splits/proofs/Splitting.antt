@@ -1,18 +1,18 @@
 -- The laws of the splitter: what each turn of its loop does to the fields found so far, and what the spans say at the end.
 use mathlib.Core.Path.{◌≡◌, refl, ap, ◌∙◌, sym}
-use mathlib.Core.Bool.{true, false, true≢false}
+use mathlib.Core.Bool.{Bool, true, false}
 use mathlib.Core.List.{List, [], ◌∷◌, ◌++◌, map, append-nil}
 use Prim.Native.Nat.{ℕ, zero, suc, ◌+◌, ◌-◌, ◌<◌, ◌≤◌}
 use native.Mathlib.Omega.{arith}
 use borrow.Author.Rules.{rules}
-use borrow.Author.Tests.{eq-eqb, ne_eqb, le-leb, lt-leb}
+use borrow.Author.Tests.{eq-eqb, ne_eqb, le-leb, lt-leb, leb-true, leb-false}
 use lib.Dec.{leb, eqb}
 use lib.ListN.{length, get_or, take, drop, set, replicate, length-append, length-map, length-set, length-drop, drop_of_length-le, get_or-map}
 use lib.Seq.{drop-drop, drop-set-lt, take-suc, get_or-drop, append_snoc, length-take-le}
 use Rattle.std.specs.Prelude.{Option, Some, None}
 use Rattle.rules.specs.Lists.{pick, onto_first, split_on}
 use Rattle.rules.specs.Kinds.{field_count, field_at}
-use Rattle.rules.proofs.Lists.{All, nil, cons}
+use Rattle.rules.proofs.Lists.{All, nil, cons, split_short, all_fields}
 use Rattle.wire.proofs.Steps.{left_at, take_put}
 use Rattle.rules.specs.declared.kinds.Kind.{Kind}
 use Rattle.rows.specs.Rows.{IsRow}
@@ -56,7 +56,7 @@ unfolding split_on onto_first pick
 split_some b [] = omega arith
 split_some b (x ∷ s) = by (eqb x b) (split_on b s) (split_some b s)
   where
-    by : (t : mathlib.Core.Bool.Bool) (ps : List (List ℕ)) → 1 ≤ length ps → 1 ≤ length (pick t ([] ∷ ps) (onto_first x ps))
+    by : (t : Bool) (ps : List (List ℕ)) → 1 ≤ length ps → 1 ≤ length (pick t ([] ∷ ps) (onto_first x ps))
     by true ps h = omega arith
     by false [] h = omega arith
     by false (p ∷ ps) h = omega arith
@@ -210,7 +210,33 @@ counted kind row e = e.count
 
 pub ruleset split_laws = (rules, begin, colon, other, full, end_full, end_few, end_fields, few_fields, counted)
 
+-- what the splitter's answer says
+pub few_there : (n : ℕ) (fields : List (List ℕ)) → length fields ≤ n → if_few n fields ≡ Some fields
+unfolding if_few pick
+few_there n fields h = rw (le-leb (length fields) n h)
+
+pub not_few : (n : ℕ) (fields : List (List ℕ)) → None ≡ if_few n fields → n < length fields
+unfolding if_few pick
+not_few n fields e = by (leb (length fields) n) refl e
+  where
+    by : (t : Bool) → leb (length fields) n ≡ t → None ≡ pick t (Some fields) None → n < length fields
+    by true a q = absurd (let z : ◌≡◌ {A = ℕ} 0 1 = cc in omega arith)
+    by false a q = leb-false (length fields) n a
+
+pub are_few : (n : ℕ) (fields found : List (List ℕ)) → Some found ≡ if_few n fields → (length fields ≤ n) × (fields ≡ found)
+unfolding if_few pick
+are_few n fields found e = by (leb (length fields) n) refl e
+  where
+    by : (t : Bool) → leb (length fields) n ≡ t → Some found ≡ pick t (Some fields) None → (length fields ≤ n) × (fields ≡ found)
+    by true a q = (leb-true (length fields) n a, cc)
+    by false a q = absurd (let z : ◌≡◌ {A = ℕ} 0 1 = cc in omega arith)
+
 -- ---- a field's text
+
+-- a field is no longer than its line
+pub field_short : (s : List ℕ) (i n : ℕ) → length s ≤ n → length (field_at (split_on 58 s) i) ≤ n
+unfolding field_at
+field_short s i n h = all_fields n i (split_short 58 n s h)
 
 module _ (s : List ℕ) (spans : List Span) (i : ℕ) (f : FieldsOf s spans) where
   within : Inside (length s) (get_or spans i empty_span)

@@ -2,18 +2,15 @@
 use mathlib.Core.Path.{◌≡◌, refl, ap, ◌∙◌, sym}
 use mathlib.Core.Bool.{true}
 use mathlib.Core.List.{List, []}
-use Rattle.std.specs.Prelude.{Option, Some, None}
 use Prim.Native.Nat.{ℕ, ◌+◌, ◌≤◌}
 use native.Mathlib.Omega.{arith}
-use lib.Dec.{T}
 use lib.ListN.{length, take}
 use Rattle.rules.specs.Lists.{is_some, value_or}
 use Rattle.rules.specs.Kinds.{common, meanings, field_count, field_at}
 use Rattle.rules.specs.Names.{wire_of}
-use Rattle.rules.specs.Fields.{text_of, unless, fault_of}
+use Rattle.rules.specs.Fields.{text_of, fault_of}
 use Rattle.rules.specs.Records.{chunks, records_of, resource_of, shared_of, short_at}
 use Rattle.rules.specs.Bytes.{bytes_of, encode}
-use Rattle.rules.specs.Answers.{is_done}
 use Rattle.rules.specs.declared.faults.FieldKind.{FieldKind}
 use Rattle.rules.specs.declared.kinds.Kind.{Kind}
 use Rattle.rules.specs.declared.quantities.Shared.{Shared}
@@ -22,7 +19,7 @@ use Rattle.buffer.specs.Put.{IsPut}
 use Rattle.buffer.proofs.Puts.{filled}
 use Rattle.heads.specs.Head.{head_size}
 use Rattle.values.specs.Ready.{Ready}
-use Rattle.values.proofs.Readiness.{done}
+use Rattle.values.proofs.Readiness.{done, some_done}
 use Rattle.records.proofs.Sequence.{record_room, one}
 
 -- ---- a text that is held
@@ -42,19 +39,14 @@ text_few w d x r p h = omega (arith, p.count, p.room)
 
 -- ---- a line that is ready
 
-good_text : (o : Option (List ℕ)) → T (is_done (unless FieldKind.Escape o)) → is_some o ≡ true
-unfolding unless is_done is_some
-good_text None d = absurd d
-good_text (Some x) d = refl
-
 module _ (fields : List (List ℕ)) where
   pub text_ready : Ready Kind.Text fields → is_some (text_of (field_at fields 1)) ≡ true
   unfolding meanings common fault_of
-  text_ready r = good_text _ (done fields Kind.Text r).1.0
+  text_ready r = some_done FieldKind.Escape _ (done fields Kind.Text r).1.0
 
   pub generic_ready : Ready Kind.Generic fields → is_some (text_of (field_at fields 2)) ≡ true
   unfolding meanings common fault_of
-  generic_ready r = good_text _ (done fields Kind.Generic r).1.1.0
+  generic_ready r = some_done FieldKind.Escape _ (done fields Kind.Generic r).1.1.0
 
 pub text_fields : 3 ≤ field_count Kind.Text
 unfolding field_count meanings common

@@ -2,13 +2,15 @@
 use mathlib.Core.Path.{◌≡◌, refl}
 use mathlib.Core.Bool.{true}
 use mathlib.Core.List.{List, [], ◌∷◌}
+use Rattle.std.specs.Prelude.{Option, Some, None}
 use Prim.Native.Nat.{ℕ, ◌≤◌}
 use native.Mathlib.Omega.{arith}
 use lib.Dec.{T}
 use lib.ListN.{length}
 use Rattle.rules.specs.Kinds.{common, meanings, field_count, field_at}
 use Rattle.rules.specs.Names.{NameRead, named, misnamed, name_of}
-use Rattle.rules.specs.Fields.{name_fault, needed, fault_of}
+use Rattle.rules.specs.Lists.{is_some}
+use Rattle.rules.specs.Fields.{name_fault, needed, unless, fault_of}
 use Rattle.rules.specs.Records.{joined_names}
 use Rattle.rules.specs.Answers.{is_done}
 use Rattle.rules.specs.declared.faults.FieldKind.{FieldKind}
@@ -27,6 +29,22 @@ pub needed_named : (t : List ℕ) → T (is_done (needed FieldKind.Name t (name_
 unfolding needed is_done
 needed_named [] d = absurd d
 needed_named (b ∷ t) d = named_done (name_of (b ∷ t)) d
+
+-- what is read without a fault is there
+pub some_done : (k : FieldKind) (o : Option (List ℕ)) → T (is_done (unless k o)) → is_some o ≡ true
+unfolding unless is_done is_some
+some_done k (Some x) d = refl
+some_done FieldKind.Name None d = absurd d
+some_done FieldKind.Address None d = absurd d
+some_done FieldKind.Number None d = absurd d
+some_done FieldKind.Time None d = absurd d
+some_done FieldKind.Lo None d = absurd d
+some_done FieldKind.Escape None d = absurd d
+
+pub needed_some : (k : FieldKind) (t : List ℕ) (o : Option (List ℕ)) → T (is_done (needed k t (unless k o))) → is_some o ≡ true
+unfolding needed is_done
+needed_some k [] o d = absurd d
+needed_some k (b ∷ t) o d = some_done k o d
 
 module _ (fields : List (List ℕ)) where
   -- each field reads as its meaning

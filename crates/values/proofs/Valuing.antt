@@ -1,7 +1,7 @@
 -- The laws of the values of fields.
 use mathlib.Core.Path.{◌≡◌, ap, ◌∙◌}
 use mathlib.Core.List.{List}
-use Rattle.std.specs.Prelude.{Option, Some, None}
+use Rattle.std.specs.Prelude.{Option, Some, None, option_map}
 use Rattle.std.specs.Option.{unwrap_or}
 use Prim.Native.Nat.{ℕ, ◌-◌, ◌≤◌}
 use native.Mathlib.Omega.{arith}
@@ -15,10 +15,6 @@ use Rattle.rules.specs.declared.quantities.Lo.{Lo}
 use Rattle.rules.specs.declared.quantities.Moment.{Moment}
 use Rattle.rules.specs.declared.quantities.Ttl.{Ttl}
 use Rattle.rules.proofs.Fields.{number_most}
-use Rattle.times.specs.Views.{time_read}
-use Rattle.codes.specs.Views.{lo_read}
-use Rattle.times.specs.declared.times.TimeRead.{TimeRead}
-use Rattle.codes.specs.declared.codes.LoRead.{LoRead}
 use Rattle.rows.specs.Rows.{IsRow}
 use Rattle.rows.specs.declared.rows.Row.{Row}
 use Rattle.rows.proofs.Table.{count_most}
@@ -34,25 +30,17 @@ number_is t limit default n (Some m) e u h =
 
 pub ruleset number_laws = (rules, number_is)
 
-module _ (t : List ℕ) (r : TimeRead) (e : time_read r ≡ time_of t) where
-  pub time_is : (m : Moment) → r ≡ TimeRead.Good m → m.0 ≡ value_or 0 (time_of t)
-  unfolding value_or
-  time_is m q = rw (← e, q)
+pub time_is : (t : List ℕ) (r : Option Moment) (m : Moment) → option_map (λ m. m.0) r ≡ time_of t → m ≡ unwrap_or r (record { 0 = 0 }) → m.0 ≡ value_or 0 (time_of t)
+unfolding value_or
+time_is t None m e u = rw (← e, u)
+time_is t (Some n) m e u = rw (← e, u)
 
-  pub time_not : r ≡ TimeRead.Bad → 0 ≡ value_or 0 (time_of t)
-  unfolding value_or
-  time_not q = rw (← e, q)
+pub lo_is : (t : List ℕ) (r : Option Lo) (code : Lo) → r ≡ lo_of t → code ≡ unwrap_or r Lo.Every → code ≡ value_or Lo.Every (lo_of t)
+unfolding value_or
+lo_is t None code e u = rw (← e) u
+lo_is t (Some c) code e u = rw (← e) u
 
-module _ (t : List ℕ) (r : LoRead) (e : lo_read r ≡ lo_of t) where
-  pub lo_is : (code : Lo) → r ≡ LoRead.Good code → code ≡ value_or Lo.Every (lo_of t)
-  unfolding value_or
-  lo_is code q = rw (← e, q)
-
-  pub lo_not : r ≡ LoRead.Bad → Lo.Every ≡ value_or Lo.Every (lo_of t)
-  unfolding value_or
-  lo_not q = rw (← e, q)
-
-pub ruleset code_laws = (rules, time_is, time_not, lo_is, lo_not)
+pub ruleset code_laws = (rules, time_is, lo_is)
 
 -- ---- a value of a field
 
@@ -96,18 +84,12 @@ default_most Kind.Generic = omega arith
 default_most Kind.Unknown = omega arith
 
 module _ (kind : Kind) (row : Row) (e : IsRow kind row) where
-  count_is : row.count ≡ field_count kind
-  count_is = e.count
-
-  ttl_is : row.ttl ≡ default_ttl kind
-  ttl_is = e.ttl
-
   pub default_fits : row.ttl ≤ 2147483647
-  default_fits = omega (arith, ttl_is, default_most kind)
+  default_fits = omega (arith, e.ttl, default_most kind)
 
   -- the places of the last three fields
   pub last_fields : 3 ≤ field_count kind → (3 ≤ row.count) × (row.count ≤ 11)
-  last_fields h = (omega (arith, count_is), omega (arith, count_is, count_most kind))
+  last_fields h = (omega (arith, e.count), omega (arith, e.count, count_most kind))
 
   pub shared_is : (fields : List (List ℕ)) (ttl : Ttl) (time : Moment) (lo : Lo)
       → ttl.0 ≡ number_or row.ttl largest_ttl (field_at fields (row.count - 3))
@@ -116,7 +98,7 @@ module _ (kind : Kind) (row : Row) (e : IsRow kind row) where
       → record { ttl = ttl; time = time; lo = lo } ≡ shared_of kind fields
   unfolding shared_of
   shared_is fields ttl time lo a b c =
-      let p : ttl.0 ≡ number_or (default_ttl kind) largest_ttl (field_at fields (field_count kind - 3)) = a ∙ rw (ttl_is, count_is) in
-      let q : time.0 ≡ value_or 0 (time_of (field_at fields (field_count kind - 2))) = b ∙ rw count_is in
-      let r : lo ≡ value_or Lo.Every (lo_of (field_at fields (field_count kind - 1))) = c ∙ rw count_is in
+      let p : ttl.0 ≡ number_or (default_ttl kind) largest_ttl (field_at fields (field_count kind - 3)) = a ∙ rw (e.ttl, e.count) in
+      let q : time.0 ≡ value_or 0 (time_of (field_at fields (field_count kind - 2))) = b ∙ rw e.count in
+      let r : lo ≡ value_or Lo.Every (lo_of (field_at fields (field_count kind - 1))) = c ∙ rw e.count in
       λ i. record { ttl = record { 0 = p i }; time = record { 0 = q i }; lo = r i }

@@ -6,13 +6,13 @@ ghost use Rattle.rules.specs.Fields.{time_of, lo_of, largest_ttl};
 ghost use Rattle.rules.specs.Records.{number_or, short_at, long_at, shared_of};
 ghost use Rattle.rules.specs.declared.quantities.Lo.{Lo};
 
-use codes::codes::{LoRead, lo};
+use codes::codes::lo;
 use numbers::numbers::number;
 use rows::rows::row_of;
 use rules::kinds::Kind;
 use rules::quantities::{Lo, Moment, Shared, Ttl};
 use splits::splits::Fields;
-use times::times::{TimeRead, time};
+use times::times::time;
 
 // A number of at most the limit, or its default.
 fn number_or(text: &[u8], limit: u64, default: u64) -> u64
@@ -25,19 +25,13 @@ fn number_or(text: &[u8], limit: u64, default: u64) -> u64
 fn time_of(text: &[u8]) -> Moment
     ensures { result.0 ≡ value_or 0 (time_of text.now) }
 {
-    match time(text) {
-        TimeRead::Good(moment) => moment,
-        TimeRead::Bad => Moment(0),
-    }
+    time(text).unwrap_or(Moment(0))
 }
 
 fn lo_of(text: &[u8]) -> Lo
     ensures { result ≡ value_or Lo.Every (lo_of text.now) }
 {
-    match lo(text) {
-        LoRead::Good(code) => code,
-        LoRead::Bad => Lo::Every,
-    }
+    lo(text).unwrap_or(Lo::Every)
 }
 
 pub fn short_at(fields: &Fields, i: usize) -> u16

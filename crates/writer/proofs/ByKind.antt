@@ -1,11 +1,10 @@
 -- The laws of a line written by its kind.
-use mathlib.Core.Path.{◌≡◌, refl, ◌∙◌, subst}
+use mathlib.Core.Path.{◌≡◌, refl, ◌∙◌, sym, subst}
 use mathlib.Core.Bool.{Bool, true, false}
 use mathlib.Core.List.{List, ◌∷◌}
 use Prim.Native.Nat.{ℕ, ◌-◌, ◌≤◌}
+use Rattle.std.specs.Prelude.{Option, Some, IsSome}
 use native.Mathlib.Omega.{arith}
-use borrow.Author.Rules.{rules}
-use borrow.Author.Tests.{le-leb}
 use lib.Dec.{nltb→le}
 use lib.ListN.{length, get_or, take, drop, length-take, length-drop}
 use Rattle.rules.specs.Lists.{pick, split_on, join_all}
@@ -17,11 +16,10 @@ use Rattle.rules.specs.declared.kinds.Kind.{Kind}
 use Rattle.rules.proofs.Tests.{pick_ok}
 use Rattle.rules.proofs.GoodLines.{Done, line_done}
 use Rattle.buffer.specs.Put.{IsPut}
-use Rattle.splits.specs.Splits.{IsSplit}
 use Rattle.kinds.specs.Strips.{IsStripped}
-use Rattle.splits.specs.declared.splits.Fields.{Fields}
-use Rattle.splits.specs.declared.splits.Span.{Span}
 use Rattle.kinds.proofs.Stripping.{parted_line}
+use Rattle.splits.specs.Few.{if_few}
+use Rattle.splits.proofs.Splitting.{few_there, field_short}
 use Rattle.values.specs.Ready.{Ready}
 use Rattle.writer.specs.GoodLine.{GoodRest}
 
@@ -75,20 +73,20 @@ module _ (serial : ℕ) (fields : List (List ℕ)) where
   generic_serial = refl
 
 -- where a kind is found to be another's name
-module _ (s : List ℕ) (k kind : Kind) (e : k ≡ kind) where
-  pub ready_as : (spans : List Span) → Ready k s spans → Ready kind s spans
-  ready_as spans r = subst (λ (x : Kind). Ready x s spans) e r
+module _ (fields : List (List ℕ)) (k kind : Kind) (e : k ≡ kind) where
+  pub ready_as : Ready k fields → Ready kind fields
+  ready_as r = subst (λ (x : Kind). Ready x fields) e r
 
-  module _ (serial : ℕ) (rs : List Record) (q : records_of serial kind (split_on 58 s) ≡ rs) where
-    pub room_as : (n : ℕ) → length (bytes_of (records_of serial k (split_on 58 s))) ≤ n → length (bytes_of rs) ≤ n
+  module _ (serial : ℕ) (rs : List Record) (q : records_of serial kind fields ≡ rs) where
+    pub room_as : (n : ℕ) → length (bytes_of (records_of serial k fields)) ≤ n → length (bytes_of rs) ≤ n
     room_as n h = rw (← q, ← e) h
 
-    pub put_as : (d f : List ℕ) (r : ℕ) → IsPut (bytes_of rs) d f r → IsPut (bytes_of (records_of serial k (split_on 58 s))) d f r
+    pub put_as : (d f : List ℕ) (r : ℕ) → IsPut (bytes_of rs) d f r → IsPut (bytes_of (records_of serial k fields)) d f r
     put_as d f r p = rw (e, q) p
 
-pub nothing_as : (s : List ℕ) (k : Kind) (serial : ℕ) (d : List ℕ) → k ≡ Kind.Unknown → IsPut (bytes_of (records_of serial k (split_on 58 s))) d d 0
+pub nothing_as : (fields : List (List ℕ)) (k : Kind) (serial : ℕ) (d : List ℕ) → k ≡ Kind.Unknown → IsPut (bytes_of (records_of serial k fields)) d d 0
 unfolding records_of bytes_of join_all
-nothing_as s k serial d e = rw e (record { count = refl; room = omega arith; holds = refl })
+nothing_as fields k serial d e = rw e (record { count = refl; room = omega arith; holds = refl })
 
 -- ---- the fields behind the kind byte
 
@@ -101,15 +99,27 @@ counted kind fields =
     Few : Type 0
     Few = length fields ≤ field_count kind
 
-pub ready_of : (kind : Kind) (s : List ℕ) (fields : Fields) → GoodRest kind s → IsSplit s kind fields → Ready kind s fields.spans
-ready_of kind s fields g p =
-    record {
-      fields = p.each (p.says ∙ le-leb (length (split_on 58 s)) (field_count kind) (counted kind (split_on 58 s) g.good));
-      short = g.short;
-      good = g.good;
-    }
+-- so they are found, and can be written
+module _ (kind : Kind) (s : List ℕ) (o : Option (List (List ℕ))) (g : GoodRest kind s) (p : o ≡ if_few (field_count kind) (split_on 58 s)) where
+  found : o ≡ Some (split_on 58 s)
+  found = p ∙ few_there (field_count kind) (split_on 58 s) (counted kind (split_on 58 s) g.good)
 
-pub ruleset rest_laws = (rules, ready_of)
+  pub fields_there : IsSome o
+  fields_there = rw found refl
+
+  module _ (fields : List (List ℕ)) (q : o ≡ Some fields) where
+    fields_are : split_on 58 s ≡ fields
+    fields_are = let e : Some (split_on 58 s) ≡ Some fields = sym found ∙ q in cc
+
+    pub ready_of : Ready kind fields
+    ready_of = rw (← fields_are) (record { short = λ i. field_short s i 1024 g.short; good = g.good })
+
+    module _ (serial : ℕ) where
+      pub fields_room : (n : ℕ) → length (bytes_of (records_of serial kind (split_on 58 s))) ≤ n → length (bytes_of (records_of serial kind fields)) ≤ n
+      fields_room n h = rw (← fields_are) h
+
+      pub fields_put : (d f : List ℕ) (r : ℕ) → IsPut (bytes_of (records_of serial kind fields)) d f r → IsPut (bytes_of (records_of serial kind (split_on 58 s))) d f r
+      fields_put d f r w = rw fields_are w
 
 -- ---- a line
 

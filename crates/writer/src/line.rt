@@ -17,27 +17,27 @@ use mail::mail::put_mail_line;
 use pointers::pointers::{put_canonical_line, put_pointer_line};
 use rules::kinds::Kind;
 use services::services::put_service_line;
-use splits::splits::{Span, split};
+use splits::splits::{Fields, split};
 use texts::texts::{put_generic_line, put_text_line};
 use zones::zones::{put_delegation_line, put_zone_line};
 
-fn put_kind(out: &mut [u8], rest: &[u8], spans: [Span; 11], kind: Kind, serial: u32) -> usize
-    requires { Ready kind rest.now spans × (length (bytes_of (records_of serial kind (split_on 58 rest.now))) ≤ length out.old) }
-    ensures { IsPut (bytes_of (records_of serial kind (split_on 58 rest.now))) out.old out.new result }
+fn put_kind(out: &mut [u8], fields: &Fields, kind: Kind, serial: u32) -> usize
+    requires { Ready kind fields.now × (length (bytes_of (records_of serial kind fields.now)) ≤ length out.old) }
+    ensures { IsPut (bytes_of (records_of serial kind fields.now)) out.old out.new result }
 {
     match kind {
-        Kind::Location => put_location_line(out, rest, spans),
-        Kind::Zone => put_zone_line(out, rest, spans, serial),
-        Kind::Delegation => put_delegation_line(out, rest, spans),
-        Kind::Host => put_host_line(out, rest, spans),
-        Kind::Alias => put_alias_line(out, rest, spans),
-        Kind::Mail => put_mail_line(out, rest, spans),
-        Kind::Service => put_service_line(out, rest, spans),
-        Kind::Text => put_text_line(out, rest, spans),
-        Kind::Pointer => put_pointer_line(out, rest, spans),
-        Kind::Canonical => put_canonical_line(out, rest, spans),
-        Kind::Authority => put_authority_line(out, rest, spans, serial),
-        Kind::Generic => put_generic_line(out, rest, spans),
+        Kind::Location => put_location_line(out, fields),
+        Kind::Zone => put_zone_line(out, fields, serial),
+        Kind::Delegation => put_delegation_line(out, fields),
+        Kind::Host => put_host_line(out, fields),
+        Kind::Alias => put_alias_line(out, fields),
+        Kind::Mail => put_mail_line(out, fields),
+        Kind::Service => put_service_line(out, fields),
+        Kind::Text => put_text_line(out, fields),
+        Kind::Pointer => put_pointer_line(out, fields),
+        Kind::Canonical => put_canonical_line(out, fields),
+        Kind::Authority => put_authority_line(out, fields, serial),
+        Kind::Generic => put_generic_line(out, fields),
         Kind::Unknown => 0,
     }
 }
@@ -47,9 +47,8 @@ fn put_rest(out: &mut [u8], rest: &[u8], kind: Kind, serial: u32) -> usize
     requires { GoodRest kind rest.now × (length (bytes_of (records_of serial kind (split_on 58 rest.now))) ≤ length out.old) }
     ensures { IsPut (bytes_of (records_of serial kind (split_on 58 rest.now))) out.old out.new result }
 {
-    let fields = split(rest, kind);
-    let spans = fields.spans;
-    put_kind(out, rest, spans, kind, serial)
+    let fields = split(rest, kind).unwrap();
+    put_kind(out, &fields, kind, serial)
 }
 
 pub fn put_line(out: &mut [u8], line: &[u8], serial: u32) -> usize

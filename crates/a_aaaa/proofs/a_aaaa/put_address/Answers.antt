@@ -1,19 +1,38 @@
+use mathlib.Core.Path.{◌≡◌}
+use native.Mathlib.Omega.{arith}
 use borrow.Author.Rules.{rules}
-use Rattle.wire.proofs.Parts.{front_count}
-use Rattle.a_aaaa.proofs.Addressing.{no_address, address_put, address_room}
+use lib.ListN.{length}
+use Rattle.addresses.specs.HeldAddress.{held_address}
+use Rattle.a_aaaa.proofs.Addressing.{no_address, address_put, address_room, four, sixteen}
 use Rattle.a_aaaa.proofs.a_aaaa.put_address.Goals as goal
-
-pub returns-then-len-eq0 : goal.returns-then-len-eq0
-returns-then-len-eq0 c = no_address _ _ _ c.requires.0 _ c.if-len-eq0.true
-
-pub slice_bounds-put_resource-end : goal.slice_bounds-put_resource-end
-slice_bounds-put_resource-end c = search (rules, front_count)
 
 pub put_resource-requires : goal.put_resource-requires
 put_resource-requires c =
-    let start = c.requires in
-    address_room _ _ _ start.0 _ c.if-len-eq0.false c.address_type-rtype.ensures _ start.1
+    let bytes = c.in-Some-V4.bytes in
+    let is : held_address c.args.address ≡ bytes = search rules in
+    let size : length bytes ≡ 4 = search rules in
+    address_room _ _ c.args.address _ _ is (omega arith) (four _ size) _ c.requires
 
-pub returns : goal.returns
-returns c =
-    address_put _ _ _ c.requires.0 _ c.if-len-eq0.false c.address_type-rtype.ensures _ _ _ c.put_resource.ensures.put
+pub put_resource-requires-in-Some-V6 : goal.put_resource-requires-in-Some-V6
+put_resource-requires-in-Some-V6 c =
+    let bytes = c.in-Some-V6.bytes in
+    let is : held_address c.args.address ≡ bytes = search rules in
+    let size : length bytes ≡ 16 = search rules in
+    address_room _ _ c.args.address _ _ is (omega arith) (sixteen _ size) _ c.requires
+
+pub returns-in-None : goal.returns-in-None
+returns-in-None c = no_address _ _ c.args.address _ c.in-None.is
+
+pub returns-in-Some-V4 : goal.returns-in-Some-V4
+returns-in-Some-V4 c =
+    let bytes = c.in-Some-V4.bytes in
+    let is : held_address c.args.address ≡ bytes = search rules in
+    let size : length bytes ≡ 4 = search rules in
+    address_put _ _ c.args.address _ _ is (omega arith) (four _ size) _ _ _ c.put_resource.ensures.put
+
+pub returns-in-Some-V6 : goal.returns-in-Some-V6
+returns-in-Some-V6 c =
+    let bytes = c.in-Some-V6.bytes in
+    let is : held_address c.args.address ≡ bytes = search rules in
+    let size : length bytes ≡ 16 = search rules in
+    address_put _ _ c.args.address _ _ is (omega arith) (sixteen _ size) _ _ _ c.put_resource-in-Some-V6.ensures.put

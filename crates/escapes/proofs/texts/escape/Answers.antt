@@ -1,45 +1,23 @@
-use Rattle.rules.specs.Lists.{pick}
-use Rattle.rules.specs.Fields.{octal}
-use Rattle.wire.proofs.Steps.{tests}
-use Rattle.escapes.specs.TextSteps.{escape_of}
+use Rattle.escapes.proofs.Escape.{escape_laws}
 use Rattle.escapes.proofs.texts.escape.Goals as goal
 
-pub returns-then-c-lt48 : goal.returns-then-c-lt48
-unfolding escape_of octal pick
-returns-then-c-lt48 c = search tests
+pub returns-in-48-to-51-48-to-55-48-to-55 : goal.returns-in-48-to-51-48-to-55-48-to-55
+returns-in-48-to-51-48-to-55-48-to-55 c = search escape_laws
 
-pub returns-then-c-gt51 : goal.returns-then-c-gt51
-unfolding escape_of octal pick
-returns-then-c-gt51 c = search tests
+pub returns-in_default : goal.returns-in_default
+returns-in_default c = search escape_laws
 
-pub returns-then-d-lt48 : goal.returns-then-d-lt48
-unfolding escape_of octal pick
-returns-then-d-lt48 c = search tests
+pub returns-in_default-2 : goal.returns-in_default-2
+returns-in_default-2 c = search escape_laws
 
-pub returns-then-d-gt55 : goal.returns-then-d-gt55
-unfolding escape_of octal pick
-returns-then-d-gt55 c = search tests
+pub returns-in_default-3 : goal.returns-in_default-3
+returns-in_default-3 c = search escape_laws
 
-pub returns-then-e-lt48 : goal.returns-then-e-lt48
-unfolding escape_of octal pick
-returns-then-e-lt48 c = search tests
+pub returns-in_default-4 : goal.returns-in_default-4
+returns-in_default-4 c = search escape_laws
 
-pub returns-then-e-gt55 : goal.returns-then-e-gt55
-unfolding escape_of octal pick
-returns-then-e-gt55 c = search tests
+pub returns-in_default-5 : goal.returns-in_default-5
+returns-in_default-5 c = search escape_laws
 
-pub overflow_mul-result : goal.overflow_mul-result
-overflow_mul-result c = search tests
-
-pub overflow_mul-result-2 : goal.overflow_mul-result-2
-overflow_mul-result-2 c = search tests
-
-pub overflow_add-result : goal.overflow_add-result
-overflow_add-result c = search tests
-
-pub overflow_add-result-2 : goal.overflow_add-result-2
-overflow_add-result-2 c = search tests
-
-pub returns : goal.returns
-unfolding escape_of octal pick
-returns c = search tests
+pub returns-in_default-6 : goal.returns-in_default-6
+returns-in_default-6 c = search escape_laws

@@ -1,26 +1,16 @@
-use Rattle.escapes.proofs.TextCount.{text_laws}
+use Rattle.std.proofs.Common.{◌∙◌}
+use Rattle.escapes.proofs.Escape.{front_shorter}
+use Rattle.escapes.proofs.TextCount.{counted, refused, ended}
 use Rattle.escapes.proofs.texts.judge_text.Goals as goal
 
-pub loop-i-init : goal.loop-i-init
-loop-i-init c = search text_laws
+pub returns-in_err-rest : goal.returns-in_err-rest
+returns-in_err-rest c = c.from_residual.ensures ∙ refused c.loop-left.invariant c.loop-left-test.true c.in_err-rest.ensures
 
-pub step_at-step-requires : goal.step_at-step-requires
-step_at-step-requires c = search text_laws
+pub loop-left-smaller : goal.loop-left-smaller
+loop-left-smaller c = front_shorter c.in_ok-rest.field-0-0 c.in_ok-rest.rest.now c.loop-left.left.now c.in_ok-rest.ensures
 
-pub returns-then-step-eq0 : goal.returns-then-step-eq0
-returns-then-step-eq0 c = search text_laws
-
-pub overflow_add-count : goal.overflow_add-count
-overflow_add-count c = search text_laws
-
-pub overflow_add-i : goal.overflow_add-i
-overflow_add-i c = search text_laws
-
-pub loop-i-smaller : goal.loop-i-smaller
-loop-i-smaller c = search text_laws
-
-pub loop-i-preserved : goal.loop-i-preserved
-loop-i-preserved c = search text_laws
+pub loop-left-preserved : goal.loop-left-preserved
+loop-left-preserved c = counted c.loop-left.invariant c.in_ok-rest.field-0-0 c.in_ok-rest.rest.now c.in_ok-rest.ensures
 
 pub returns : goal.returns
-returns c = search text_laws
+returns c = ended c.loop-left.invariant c.loop-left-test.false

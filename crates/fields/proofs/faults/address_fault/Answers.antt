@@ -1,11 +1,9 @@
-use Rattle.fields.proofs.FieldFault.{fault_laws}
+use Rattle.std.proofs.Common.{◌∙◌, ap}
+use Rattle.rules.specs.declared.faults.FieldKind.{FieldKind}
+use Rattle.rules.specs.Fields.{unless}
+use Rattle.addresses.specs.Address.{address_bytes}
+use Rattle.fields.proofs.FieldFault.{unless_map}
 use Rattle.fields.proofs.faults.address_fault.Goals as goal
 
-pub address-read-requires : goal.address-read-requires
-address-read-requires c = search fault_laws
-
-pub returns-then-len-eq0 : goal.returns-then-len-eq0
-returns-then-len-eq0 c = search fault_laws
-
 pub returns : goal.returns
-returns c = search fault_laws
+returns c = c.unless.ensures ∙ unless_map address_bytes FieldKind.Address c.address.result ∙ ap (unless FieldKind.Address) c.address.ensures

@@ -1,17 +1,10 @@
-use Rattle.fields.proofs.FieldFault.{fault_laws}
+use Rattle.std.proofs.Common.{◌∙◌, ap}
+use Rattle.std.specs.Result.{result_ok}
+use Rattle.rules.specs.declared.faults.FieldKind.{FieldKind}
+use Rattle.rules.specs.Names.{name_of}
+use Rattle.rules.specs.Fields.{unless}
+use Rattle.fields.proofs.FieldFault.{name_is}
 use Rattle.fields.proofs.faults.name_fault.Goals as goal
 
-pub judge_name-requires : goal.judge_name-requires
-judge_name-requires c = search fault_laws
-
-pub enum_told-1 : goal.enum_told-1
-enum_told-1 c = search fault_laws
-
-pub enum_told-in-Misnamed : goal.enum_told-in-Misnamed
-enum_told-in-Misnamed c = search fault_laws
-
-pub returns-in-Named : goal.returns-in-Named
-returns-in-Named c = search fault_laws
-
-pub returns-in-Misnamed : goal.returns-in-Misnamed
-returns-in-Misnamed c = search fault_laws
+pub returns : goal.returns
+returns c = c.unless.ensures ∙ ap (unless FieldKind.Name) c.ok.ensures.value ∙ ap (λ r. unless FieldKind.Name (result_ok r)) c.judge_name.ensures ∙ name_is (name_of c.args.text.now)

@@ -1,28 +1,15 @@
 use Rattle.rules.specs.Fields.{largest_short}
 use Rattle.fields.proofs.FieldFault.{reserved_type, free_type, no_type}
-use borrow.Author.Rules.{rules}
 use Rattle.fields.proofs.faults.type_fault.Goals as goal
 
-pub number-requires : goal.number-requires
-number-requires c = search (reserved_type, free_type, no_type, rules)
-
-pub enum_known-n : goal.enum_known-n
-enum_known-n c = search (reserved_type, free_type, no_type, rules)
-
-pub is_reserved-requires : goal.is_reserved-requires
-is_reserved-requires c = search (reserved_type, free_type, no_type, rules)
-
-pub returns-then-is_reserved : goal.returns-then-is_reserved
+pub returns-in-Some : goal.returns-in-Some
 unfolding largest_short
-returns-then-is_reserved c = search (reserved_type, free_type, no_type, rules)
+returns-in-Some c = reserved_type c.args.text.now c.in-Some.n _ c.in-Some.ensures c.is_reserved.ensures c.if-is_reserved.true
 
-pub enum_told-1 : goal.enum_told-1
-enum_told-1 c = search (reserved_type, free_type, no_type, rules)
-
-pub returns-else-is_reserved : goal.returns-else-is_reserved
+pub returns-in-Some-2 : goal.returns-in-Some-2
 unfolding largest_short
-returns-else-is_reserved c = search (reserved_type, free_type, no_type, rules)
+returns-in-Some-2 c = free_type c.args.text.now c.in-Some.n _ c.in-Some.ensures c.is_reserved.ensures c.if-is_reserved.false
 
-pub returns-in-Bad : goal.returns-in-Bad
+pub returns-in-None : goal.returns-in-None
 unfolding largest_short
-returns-in-Bad c = search (reserved_type, free_type, no_type, rules)
+returns-in-None c = no_type c.args.text.now c.in-None.ensures

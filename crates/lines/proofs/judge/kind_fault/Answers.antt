@@ -1,25 +1,28 @@
-use Rattle.lines.proofs.Judging.{row_most, unknown, too_many, spans_of, field_first, joined_last}
+use mathlib.Core.Path.{◌≡◌}
+use borrow.Author.Rules.{rules}
+use Rattle.rules.specs.declared.faults.Fault.{Fault}
+use Rattle.lines.proofs.Judging.{row_most, unknown, too_many, second_short, field_first, joined_last}
 use Rattle.lines.proofs.judge.kind_fault.Goals as goal
 
-pub returns-then-count-eq0 : goal.returns-then-count-eq0
-returns-then-count-eq0 c = unknown _ _ _ c.split-fields.ensures c.if-count-eq0.true
+pub returns-then-row-eq0 : goal.returns-then-row-eq0
+returns-then-row-eq0 c = unknown _ _ _ c.row_of-row.ensures _ c.if-row-eq0.true c.whole_line.ensures
 
-pub returns-then-not-fields : goal.returns-then-not-fields
-returns-then-not-fields c = too_many _ _ _ c.split-fields.ensures c.if-count-eq0.false c.if-not-fields.true
+pub returns-in_default : goal.returns-in_default
+returns-in_default c =
+    too_many _ _ _ c.row_of-row.ensures c.if-row-eq0.false _ c.in_default.ensures c.whole_line-in_default.ensures
 
 pub fields_fault-first-requires : goal.fields_fault-first-requires
-fields_fault-first-requires c =
-    let split = c.split-fields.ensures in
-    (spans_of _ _ _ split c.if-count-eq0.false c.if-not-fields.false, row_most _ _ _ split)
+fields_fault-first-requires c = row_most c.args.rest.now _ _ c.row_of-row.ensures
 
 pub joined_fault-requires : goal.joined_fault-requires
-joined_fault-requires c =
-    (spans_of _ _ _ c.split-fields.ensures c.if-count-eq0.false c.if-not-fields.false, c.requires)
+joined_fault-requires c = second_short _ _ _ c.in-Some.ensures c.requires
 
-pub returns-then-number-eq0 : goal.returns-then-number-eq0
-returns-then-number-eq0 c =
-    joined_last _ _ _ c.split-fields.ensures c.if-count-eq0.false c.if-not-fields.false _ _ c.fields_fault-first.ensures c.number.ensures _ c.if-number-eq0.true c.joined_fault.ensures
+pub returns-then-eq : goal.returns-then-eq
+returns-then-eq c =
+    let done : c.fields_fault-first.result.fault ≡ Fault.Done = search rules in
+    joined_last _ _ _ c.row_of-row.ensures c.if-row-eq0.false _ c.in-Some.ensures _ c.fields_fault-first.ensures _ done c.joined_fault.ensures
 
-pub returns : goal.returns
-returns c =
-    field_first _ _ _ c.split-fields.ensures c.if-count-eq0.false c.if-not-fields.false _ _ c.fields_fault-first.ensures c.number.ensures c.if-number-eq0.false
+pub returns-else-eq : goal.returns-else-eq
+returns-else-eq c =
+    let refused : c.fields_fault-first.result.fault ≡ Fault.Done → ⊥ = search rules in
+    field_first _ _ _ c.row_of-row.ensures c.if-row-eq0.false _ c.in-Some.ensures _ c.fields_fault-first.ensures refused

@@ -1,8 +1,5 @@
-use Rattle.values.proofs.Valuing.{code_laws}
+use Rattle.values.proofs.Valuing.{lo_is}
 use Rattle.values.proofs.values.lo_of.Goals as goal
 
-pub returns-in-Good : goal.returns-in-Good
-returns-in-Good c = search code_laws
-
-pub returns-in-Bad : goal.returns-in-Bad
-returns-in-Bad c = search code_laws
+pub returns : goal.returns
+returns c = lo_is _ _ _ c.lo.ensures c.unwrap_or.ensures

@@ -4,62 +4,62 @@ use Rattle.writer.proofs.line.put_kind.Goals as goal
 pub put_location_line-requires : goal.put_location_line-requires
 put_location_line-requires c =
     let start = c.requires in
-    (ready_as _ _ _ c.in-Location.is _ start.0, room_as _ _ _ c.in-Location.is _ _ (location_serial _ _) _ start.1)
+    (ready_as _ _ _ c.in-Location.is start.0, room_as _ _ _ c.in-Location.is _ _ (location_serial _ _) _ start.1)
 
 pub put_zone_line-requires : goal.put_zone_line-requires
 put_zone_line-requires c =
     let start = c.requires in
-    (ready_as _ _ _ c.in-Zone.is _ start.0, room_as _ _ _ c.in-Zone.is _ _ (zone_serial _ _) _ start.1)
+    (ready_as _ _ _ c.in-Zone.is start.0, room_as _ _ _ c.in-Zone.is _ _ (zone_serial _ _) _ start.1)
 
 pub put_delegation_line-requires : goal.put_delegation_line-requires
 put_delegation_line-requires c =
     let start = c.requires in
-    (ready_as _ _ _ c.in-Delegation.is _ start.0, room_as _ _ _ c.in-Delegation.is _ _ (delegation_serial _ _) _ start.1)
+    (ready_as _ _ _ c.in-Delegation.is start.0, room_as _ _ _ c.in-Delegation.is _ _ (delegation_serial _ _) _ start.1)
 
 pub put_host_line-requires : goal.put_host_line-requires
 put_host_line-requires c =
     let start = c.requires in
-    (ready_as _ _ _ c.in-Host.is _ start.0, room_as _ _ _ c.in-Host.is _ _ (host_serial _ _) _ start.1)
+    (ready_as _ _ _ c.in-Host.is start.0, room_as _ _ _ c.in-Host.is _ _ (host_serial _ _) _ start.1)
 
 pub put_alias_line-requires : goal.put_alias_line-requires
 put_alias_line-requires c =
     let start = c.requires in
-    (ready_as _ _ _ c.in-Alias.is _ start.0, room_as _ _ _ c.in-Alias.is _ _ (alias_serial _ _) _ start.1)
+    (ready_as _ _ _ c.in-Alias.is start.0, room_as _ _ _ c.in-Alias.is _ _ (alias_serial _ _) _ start.1)
 
 pub put_mail_line-requires : goal.put_mail_line-requires
 put_mail_line-requires c =
     let start = c.requires in
-    (ready_as _ _ _ c.in-Mail.is _ start.0, room_as _ _ _ c.in-Mail.is _ _ (mail_serial _ _) _ start.1)
+    (ready_as _ _ _ c.in-Mail.is start.0, room_as _ _ _ c.in-Mail.is _ _ (mail_serial _ _) _ start.1)
 
 pub put_service_line-requires : goal.put_service_line-requires
 put_service_line-requires c =
     let start = c.requires in
-    (ready_as _ _ _ c.in-Service.is _ start.0, room_as _ _ _ c.in-Service.is _ _ (service_serial _ _) _ start.1)
+    (ready_as _ _ _ c.in-Service.is start.0, room_as _ _ _ c.in-Service.is _ _ (service_serial _ _) _ start.1)
 
 pub put_text_line-requires : goal.put_text_line-requires
 put_text_line-requires c =
     let start = c.requires in
-    (ready_as _ _ _ c.in-Text.is _ start.0, room_as _ _ _ c.in-Text.is _ _ (text_serial _ _) _ start.1)
+    (ready_as _ _ _ c.in-Text.is start.0, room_as _ _ _ c.in-Text.is _ _ (text_serial _ _) _ start.1)
 
 pub put_pointer_line-requires : goal.put_pointer_line-requires
 put_pointer_line-requires c =
     let start = c.requires in
-    (ready_as _ _ _ c.in-Pointer.is _ start.0, room_as _ _ _ c.in-Pointer.is _ _ (pointer_serial _ _) _ start.1)
+    (ready_as _ _ _ c.in-Pointer.is start.0, room_as _ _ _ c.in-Pointer.is _ _ (pointer_serial _ _) _ start.1)
 
 pub put_canonical_line-requires : goal.put_canonical_line-requires
 put_canonical_line-requires c =
     let start = c.requires in
-    (ready_as _ _ _ c.in-Canonical.is _ start.0, room_as _ _ _ c.in-Canonical.is _ _ (canonical_serial _ _) _ start.1)
+    (ready_as _ _ _ c.in-Canonical.is start.0, room_as _ _ _ c.in-Canonical.is _ _ (canonical_serial _ _) _ start.1)
 
 pub put_authority_line-requires : goal.put_authority_line-requires
 put_authority_line-requires c =
     let start = c.requires in
-    (ready_as _ _ _ c.in-Authority.is _ start.0, room_as _ _ _ c.in-Authority.is _ _ (authority_serial _ _) _ start.1)
+    (ready_as _ _ _ c.in-Authority.is start.0, room_as _ _ _ c.in-Authority.is _ _ (authority_serial _ _) _ start.1)
 
 pub put_generic_line-requires : goal.put_generic_line-requires
 put_generic_line-requires c =
     let start = c.requires in
-    (ready_as _ _ _ c.in-Generic.is _ start.0, room_as _ _ _ c.in-Generic.is _ _ (generic_serial _ _) _ start.1)
+    (ready_as _ _ _ c.in-Generic.is start.0, room_as _ _ _ c.in-Generic.is _ _ (generic_serial _ _) _ start.1)
 
 pub returns-in-Location : goal.returns-in-Location
 returns-in-Location c = put_as _ _ _ c.in-Location.is _ _ (location_serial _ _) _ _ _ c.put_location_line.ensures

@@ -1,8 +1,10 @@
 use Rattle.zones.proofs.ZoneRecords.{ending, lasting}
 use Rattle.zones.proofs.zones.soa_shared.Goals as goal
-
-pub returns-then-ttl-eq0 : goal.returns-then-ttl-eq0
-returns-then-ttl-eq0 c = ending c.args.shared c.if-ttl-eq0.true
+use Rattle.zones.proofs.zones.soa_shared.Goals.{then-shared-eq0, else-shared-eq0}
 
 pub returns : goal.returns
-returns c = lasting c.args.shared c.if-ttl-eq0.false
+returns c =
+    elim c.if-shared-eq0.branch [
+      then-shared-eq0 w ↦ ending c.args.shared _ w.if-shared-eq0.true w.ttl-is
+    | else-shared-eq0 w ↦ lasting c.args.shared _ w.if-shared-eq0.false w.ttl-is
+    ]
