@@ -1,17 +1,18 @@
 -- Bytes free of A to Z, byte by byte and part by part.
 use mathlib.Core.Path.{◌≡◌, refl, ap, ◌∙◌, sym}
 use mathlib.Core.Bool.{Bool, true, false, not, ◌&&◌, and-true, and-false}
-use mathlib.Core.List.{List, [], ◌∷◌, ◌++◌, append_assoc}
+use mathlib.Core.List.{List, [], ◌∷◌, ◌++◌}
 use Prim.Native.Nat.{ℕ, ◌+◌, ◌-◌, ◌<◌, ◌≤◌}
 use native.Mathlib.Omega.{arith}
 use borrow.Author.Rules.{rules}
 use borrow.Author.Tests.{not-true, not-false}
 use lib.Dec.{leb}
-use lib.ListN.{length-append, length, get_or, take, drop, drop_of_length-le, take-append-drop}
-use lib.Seq.{take-append-le}
+use lib.ListN.{length, get_or, take, drop, drop_of_length-le, take-append-drop}
+use lib.Seq.{take-take, take-add}
 use Rattle.rules.specs.Lists.{all}
 use Rattle.rules.specs.Reading.{lowered}
 use Rattle.wire.proofs.Steps.{left_at}
+use Rattle.wire.proofs.Parts.{tail_lent}
 
 -- none so far and none from here on is none
 pub none_so_far : (part : List ℕ) → (true && lowered (drop 0 part)) ≡ lowered part
@@ -53,34 +54,22 @@ first_of : (a b : Bool) → (a && b) ≡ true → a ≡ true
 first_of true b e = refl
 first_of false b e = e
 
--- what is left is the end of the key, and what stands before it is free of A to Z
-pub record LoweredUpTo (key rest : List ℕ) : Type 0 where
-  pub before : List ℕ
-  pub parted : key ≡ before ++ rest
-  pub low : lowered before ≡ true
-
-pub no_part_yet : (key : List ℕ) → LoweredUpTo key key
+pub no_part_yet : (key : List ℕ) → lowered (take 0 key) ≡ true
 unfolding lowered all
-no_part_yet key = record { before = []; parted = refl; low = refl }
+no_part_yet key = refl
 
-module _ (key rest part behind : List ℕ) (u : LoweredUpTo key rest) (p : part ≡ take 16 rest) (q : behind ≡ drop 16 rest) (t : Bool) (e : t ≡ lowered part) where
-  pub part_upper : not t ≡ true → false ≡ lowered key
-  part_upper n = rw (u.parted, lowered_append u.before rest, u.low, lowered_cut 16 rest, ← p, ← e, not-true t n)
+module _ (key : List ℕ) (i : ℕ) (f : lowered (take i key) ≡ true) (t : Bool) where
+  pub part_upper : (m : ℕ) → t ≡ lowered (take m (drop i key)) → not t ≡ true → false ≡ lowered key
+  part_upper m q n = rw (lowered_cut i key, lowered_cut m (drop i key), ← q, not-true t n, f)
 
-  pub part_lowered : not t ≡ false → LoweredUpTo key behind
-  part_lowered n = record {
-    before = u.before ++ part;
-    parted = u.parted ∙ rw (p, q, append_assoc, take-append-drop 16 rest);
-    low = rw (lowered_append u.before part, u.low, ← e, not-false t n);
-  }
+  pub part_lowered : t ≡ lowered (take (i + 16 - i) (drop i key)) → not t ≡ false → lowered (take (i + 16) key) ≡ true
+  part_lowered q n =
+      let s : i + 16 - i ≡ 16 = omega arith in
+      rw (take-add i 16 key, lowered_append (take i key) (take 16 (drop i key)), f, ← s, ← q, not-false t n)
 
-module _ (key rest last : List ℕ) (u : LoweredUpTo key rest) (s : length rest < 16) (l : 16 ≤ length key) (p : last ≡ drop (length key - 16) key) where
-  pub last_part : (t : Bool) → t ≡ lowered last → t ≡ lowered key
-  last_part t e =
-      let k = length key - 16 in
-      let b : length key ≡ length u.before + length rest = ap length u.parted ∙ length-append u.before rest in
-      let f : take k key ≡ take k u.before = ap (take k) u.parted ∙ take-append-le k u.before rest (omega arith) in
-      let g : lowered (take k key) ≡ true = ap lowered f ∙ first_of (lowered (take k u.before)) (lowered (drop k u.before)) (sym (lowered_cut k u.before) ∙ u.low) in
-      e ∙ rw (lowered_cut k key, g, p)
+  pub last_part : (a : ℕ) → a ≡ length key - 16 → length key - i ≤ 16 → t ≡ lowered (take (length key - a) (drop a key)) → t ≡ lowered key
+  last_part a s h q =
+      let g : lowered (take a key) ≡ true = first_of _ _ (sym (rw (take-take a i key (omega arith)) at (lowered_cut a (take i key))) ∙ f) in
+      q ∙ rw (tail_lent key a, lowered_cut a key, g)
 
 pub ruleset lowered_laws = (rules, no_part_yet, part_upper, part_lowered, last_part)

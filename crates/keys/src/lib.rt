@@ -57,21 +57,25 @@ fn is_lowered_part(part: &[u8]) -> bool
     low
 }
 
-// Whether bytes are free of A to Z. They are taken by 16, for which no loop is left, and the last 16 may have been looked at before.
+// Whether bytes are free of A to Z. They are taken by 16, for which no loop is left, and the last 16 may have been looked at before. By the
+// library's chunks, in place of places, asking takes a tenth more instructions.
 fn is_lowered(key: &[u8]) -> bool
     ensures { result ≡ lowered key.now }
 {
-    let Some(last) = key.last_chunk::<16>() else {
+    let n = key.len();
+    if n < 16 {
         return is_lowered_part(key);
-    };
-    let mut rest = key;
-    while let Some((part, behind)) = rest.split_first_chunk::<16>() {
-        if !is_lowered_part(part) {
+    }
+    let mut i: usize = 0;
+    while 16 < n - i {
+        let next = i + 16;
+        if !is_lowered_part(&key[i..next]) {
             return false;
         }
-        rest = behind;
+        i = next;
     }
-    is_lowered_part(last)
+    let last = n - 16;
+    is_lowered_part(&key[last..])
 }
 
 // Whether a key is a name free of A to Z, as that of every record with an owner is. Letters first: behind is_wire the last byte would be

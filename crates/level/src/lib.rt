@@ -11,7 +11,7 @@ ghost use Rattle.ranks.specs.Ranks.{seen_rank, largest};
 
 use ranks::{Role, is_end, rank_in};
 use rules::quantities::{Lo, Moment};
-use stream::span_at;
+use stream::{Span, span_at};
 
 // The largest rank in a stream of whole records from a place on. None is above that of the name's own records. Most records are ruled out by
 // the end of the name alone, without a call.
@@ -35,10 +35,11 @@ pub fn best_rank(
         if best == 256 {
             return best;
         }
-        let span = span_at(stream, at);
-        let start = span.start;
-        let middle = span.middle;
-        let next = span.next;
+        let Span {
+            start,
+            middle,
+            next,
+        } = span_at(stream, at);
         if !is_end(name, &stream[start..middle]) {
             at = next;
         } else {

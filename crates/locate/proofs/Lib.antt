@@ -1,4 +1,3 @@
-pub mod Prefixes
 pub mod Unranked
 pub mod Covering
 pub mod Types

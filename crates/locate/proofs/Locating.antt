@@ -2,15 +2,12 @@
 use mathlib.Core.Path.{◌≡◌, refl, ap, ◌∙◌, sym}
 use mathlib.Core.Bool.{Bool, true, false}
 use mathlib.Core.List.{List}
-use Rattle.std.specs.Prelude.{Option, Some, None}
+use Rattle.std.specs.Prelude.{Option, Some, None, unwrap_or}
 use Prim.Native.Nat.{ℕ, ◌-◌, ◌<◌, ◌≤◌}
 use native.Mathlib.Omega.{arith}
 use borrow.Author.Rules.{rules}
-use borrow.Author.Tests.{eq-eqb, ne_eqb, eqb-true}
 use lib.ListN.{length, take, drop, drop_of_length-le}
-use lib.Dec.{eqb}
 use Rattle.rules.specs.declared.quantities.Lo.{Lo}
-use Rattle.rules.specs.Lists.{pick}
 use Rattle.rules.specs.Records.{Record, location, lo_bytes}
 use Rattle.rules.specs.Questions.{Best, better, best_of, location_of}
 use Rattle.rules.specs.Reading.{record_in, onto_records, decode}
@@ -22,24 +19,27 @@ use Rattle.locate.specs.declared.Located.{Located}
 use Rattle.locate.specs.declared.Part.{Part}
 use Rattle.locate.specs.declared.Step.{Step}
 use Rattle.locate.specs.declared.Stop.{Stop}
-use Rattle.locate.specs.declared.Judged.{Judged}
 use Rattle.locate.specs.Covers.{Covered}
 use Rattle.locate.specs.Grown.{grown_to}
 use Rattle.locate.specs.Locations.{located_in, located_from, best_seen, judged_lo}
 use Rattle.locate.specs.Reaches.{Passed, Plain}
 use Rattle.locate.specs.Steps.{seen, step_seen, step_of}
-use Rattle.locate.specs.Stops.{IsStop, Stopped}
+use Rattle.locate.specs.Stops.{IsStop}
 use Rattle.locate.proofs.Covering.{Read, NoRank, at_start, passed, plain_behind, found_first, found_more, covers}
 use Rattle.locate.proofs.Stopping.{step_none, step_same, is_location_lem, met_location, met}
 
 -- ---- the pass
 
-pub record Going (client name stream : List ℕ) (best : Located) (level control : Part) (at : ℕ) : Type 0 where
+-- the part so far, of which nothing is taken at first
+abbrev pub part_of : Option Part → Part
+part_of p = unwrap_or p (record { from = 0; until = 0 })
+
+pub record Going (client name stream : List ℕ) (best : Located) (level control : Option Part) (at : ℕ) : Type 0 where
   pub inside : at ≤ length stream
   pub located_there : located_in client (decode stream) ≡ located_from client (best_seen best) (decode (drop at stream))
-  pub level_passed : Passed Role.Level name stream level.from level.until at
-  pub control_passed : Passed Role.Control name stream control.from control.until at
-  pub zone_passed : Passed Role.Zone name stream control.from control.until at
+  pub level_passed : Passed Role.Level name stream (part_of level).from (part_of level).until at
+  pub control_passed : Passed Role.Control name stream (part_of control).from (part_of control).until at
+  pub zone_passed : Passed Role.Zone name stream (part_of control).from (part_of control).until at
 
 from_start : (client stream : List ℕ) → located_in client (decode stream) ≡ located_from client (best_seen (record { lo = Lo.Every; least = 0 })) (decode (drop 0 stream))
 unfolding best_seen
@@ -49,7 +49,7 @@ from_start client stream = go (decode stream)
     go None = unfold located_from located_in in refl
     go (Some rs) = unfold located_from located_in location_of lo_bytes in refl
 
-pub at_first : (client name stream : List ℕ) → Going client name stream (record { lo = Lo.Every; least = 0 }) (record { from = 0; until = 0 }) (record { from = 0; until = 0 }) 0
+pub at_first : (client name stream : List ℕ) → Going client name stream (record { lo = Lo.Every; least = 0 }) None None 0
 at_first client name stream = record {
   inside = omega arith;
   located_there = from_start client stream;
@@ -66,7 +66,7 @@ step_better client best prefix lo None = refl
 step_better client best prefix lo (Some rs) = refl
 
 -- over records that are nothing to the pass
-module _ (client name stream : List ℕ) (best : Located) (level control : Part) (at : ℕ) (g : Going client name stream best level control at) (to : ℕ) (q : Plain name stream at to) where
+module _ (client name stream : List ℕ) (best : Located) (level control : Option Part) (at : ℕ) (g : Going client name stream best level control at) (to : ℕ) (q : Plain name stream at to) where
   plain_passed : (role : Role) (p : Part) → Passed role name stream p.from p.until at → Passed role name stream p.from p.until to
   plain_passed role p h = plain_behind role name stream p.from p.until at h to q
 
@@ -74,177 +74,118 @@ module _ (client name stream : List ℕ) (best : Located) (level control : Part)
   moves = record {
     inside = q.inside;
     located_there = g.located_there ∙ q.unlocated client (best_seen best);
-    level_passed = plain_passed Role.Level level g.level_passed;
-    control_passed = plain_passed Role.Control control g.control_passed;
-    zone_passed = plain_passed Role.Zone control g.zone_passed;
+    level_passed = plain_passed Role.Level (part_of level) g.level_passed;
+    control_passed = plain_passed Role.Control (part_of control) g.control_passed;
+    zone_passed = plain_passed Role.Zone (part_of control) g.zone_passed;
   }
 
 -- at a record
-module _ (client name stream : List ℕ) (best : Located) (level control : Part) (at : ℕ) (g : Going client name stream best level control at) (span : Span) (i : IsSpan stream at span) where
+module _ (client name stream : List ℕ) (best : Located) (level control : Option Part) (at : ℕ) (g : Going client name stream best level control at) (span : Span) (i : IsSpan stream at span) where
   abbrev key : List ℕ
   key = take (span.middle - span.start) (drop span.start stream)
 
   abbrev rdata : List ℕ
   rdata = take (span.next - span.middle) (drop span.middle stream)
 
-  grows : (role : Role) (p q : Part) → Passed role name stream p.from p.until at → Read name key rdata → q ≡ grown_to p at span.next → Passed role name stream q.from q.until span.next
+  -- a part that takes the record, or leaves it where it has no rank in the role
+  turned : (role : Role) (p q : Option Part) (taken : Bool) → Passed role name stream (part_of p).from (part_of p).until at → Read name key rdata
+      → (taken ≡ false → NoRank name key rdata role) → q ≡ grown_to p taken at span.next → Passed role name stream (part_of q).from (part_of q).until span.next
   unfolding grown_to
-  grows role p q h o e = rw e (by (eqb p.until 0) refl)
-    where
-      by : (b : Bool) → eqb p.until 0 ≡ b
-          → Passed role name stream (pick {A = Part} b (record { from = at; until = span.next }) (record { from = p.from; until = span.next })).from (pick {A = Part} b (record { from = at; until = span.next }) (record { from = p.from; until = span.next })).until span.next
-      by true z = unfold pick in found_first role name stream p.from p.until at h span i o (eqb-true p.until 0 z)
-      by false z = unfold pick in found_more role name stream p.from p.until at h span i o
+  turned role p q false h o z e = rw e (passed role name stream (part_of p).from (part_of p).until at h span i o (z refl))
+  turned role None q true h o z e = rw e (found_first role name stream 0 0 at h span i o refl)
+  turned role (Some p) q true h o z e = rw e (found_more role name stream p.from p.until at h span i o)
 
   stays : (role : Role) (p : Part) → Passed role name stream p.from p.until at → Read name key rdata → NoRank name key rdata role → Passed role name stream p.from p.until span.next
   stays role p h o z = passed role name stream p.from p.until at h span i o z
 
-  module _ (r : Step) (q : step_seen r ≡ step_of name key (record_in key rdata)) where
-    is_step : (x : Step) → r ≡ x → step_of name key (record_in key rdata) ≡ step_seen x
-    is_step x p = sym q ∙ ap step_seen p
+  broken_at : step_seen None ≡ step_of name key (record_in key rdata) → judged_lo None ≡ located_in client (decode stream)
+  unfolding part onto_records step_seen judged_lo located_from
+  broken_at q = sym (g.located_there ∙ rw (i.says, step_none name key _ (sym q)))
 
-    same : (a b : Bool) → step_of name key (record_in key rdata) ≡ seen a b → located_in client (decode stream) ≡ located_from client (best_seen best) (decode (drop span.next stream))
-    unfolding part
-    same a b e = (rw i.says at g.located_there) ∙ step_same name key client (best_seen best) a b _ (decode (drop span.next stream)) e
-
-    broken_at : r ≡ Step.Broken → judged_lo Judged.Broken ≡ located_in client (decode stream)
-    unfolding part onto_records step_seen judged_lo located_from
-    broken_at b = sym (g.located_there ∙ rw (i.says, step_none name key _ (is_step Step.Broken b)))
-
-    located_at : (lo : Lo) → r ≡ Step.Location lo → (record_in key rdata ≡ Some (location (drop 2 key) (lo_bytes lo))) × (2 ≤ length key)
+  module _ (lo : Lo) (q : step_seen (Some (Step.Location lo)) ≡ step_of name key (record_in key rdata)) where
+    located_at : (record_in key rdata ≡ Some (location (drop 2 key) (lo_bytes lo))) × (2 ≤ length key)
     unfolding step_seen
-    located_at lo b = is_location_lem name key rdata (lo_bytes lo) (is_step (Step.Location lo) b)
+    located_at = is_location_lem name key rdata (lo_bytes lo) (sym q)
 
-    location_at : (lo : Lo) → r ≡ Step.Location lo → (next : Located) → best_seen next ≡ better client (best_seen best) (location (drop 2 key) (lo_bytes lo))
-        → Going client name stream next level control span.next
+    location_at : (next : Located) → best_seen next ≡ better client (best_seen best) (location (drop 2 key) (lo_bytes lo)) → Going client name stream next level control span.next
     unfolding part
-    location_at lo b next e =
-        let l = (located_at lo b).0 in
+    location_at next e =
+        let l = located_at.0 in
         let m = met_location name key rdata (drop 2 key) (lo_bytes lo) l in
         record {
           inside = i.inside;
           located_there = (rw (i.says, l) at g.located_there) ∙ (rw (← e) at (step_better client (best_seen best) (drop 2 key) (lo_bytes lo) (decode (drop span.next stream))));
-          level_passed = stays Role.Level level g.level_passed m.read (m.level refl);
-          control_passed = stays Role.Control control g.control_passed m.read (m.control refl);
-          zone_passed = stays Role.Zone control g.zone_passed m.read (m.zone refl);
+          level_passed = stays Role.Level (part_of level) g.level_passed m.read (m.level refl);
+          control_passed = stays Role.Control (part_of control) g.control_passed m.read (m.control refl);
+          zone_passed = stays Role.Zone (part_of control) g.zone_passed m.read (m.zone refl);
         }
 
-    both_at : (l c : Part) → r ≡ Step.Both → l ≡ grown_to level at span.next → c ≡ grown_to control at span.next → Going client name stream best l c span.next
+  module _ (a b : Bool) (q : step_seen (Some (Step.Owned a b)) ≡ step_of name key (record_in key rdata)) where
+    is_seen : step_of name key (record_in key rdata) ≡ seen a b
     unfolding step_seen
-    both_at l c b x y =
-        let m = met name key rdata true true (is_step Step.Both b) in
-        record {
-          inside = i.inside;
-          located_there = same true true (is_step Step.Both b);
-          level_passed = grows Role.Level level l g.level_passed m.read x;
-          control_passed = grows Role.Control control c g.control_passed m.read y;
-          zone_passed = grows Role.Zone control c g.zone_passed m.read y;
-        }
+    is_seen = sym q
 
-    candidate_at : (l : Part) → r ≡ Step.Candidate → l ≡ grown_to level at span.next → Going client name stream best l control span.next
-    unfolding step_seen
-    candidate_at l b x =
-        let m = met name key rdata true false (is_step Step.Candidate b) in
+    owned_at : (l c : Option Part) → l ≡ grown_to level a at span.next → c ≡ grown_to control b at span.next → Going client name stream best l c span.next
+    unfolding part
+    owned_at l c x y =
+        let m = met name key rdata a b is_seen in
         record {
           inside = i.inside;
-          located_there = same true false (is_step Step.Candidate b);
-          level_passed = grows Role.Level level l g.level_passed m.read x;
-          control_passed = stays Role.Control control g.control_passed m.read (m.control refl);
-          zone_passed = stays Role.Zone control g.zone_passed m.read (m.zone refl);
-        }
-
-    control_at : (c : Part) → r ≡ Step.Control → c ≡ grown_to control at span.next → Going client name stream best level c span.next
-    unfolding step_seen
-    control_at c b y =
-        let m = met name key rdata false true (is_step Step.Control b) in
-        record {
-          inside = i.inside;
-          located_there = same false true (is_step Step.Control b);
-          level_passed = stays Role.Level level g.level_passed m.read (m.level refl);
-          control_passed = grows Role.Control control c g.control_passed m.read y;
-          zone_passed = grows Role.Zone control c g.zone_passed m.read y;
-        }
-
-    other_at : r ≡ Step.Other → Going client name stream best level control span.next
-    unfolding step_seen
-    other_at b =
-        let m = met name key rdata false false (is_step Step.Other b) in
-        record {
-          inside = i.inside;
-          located_there = same false false (is_step Step.Other b);
-          level_passed = stays Role.Level level g.level_passed m.read (m.level refl);
-          control_passed = stays Role.Control control g.control_passed m.read (m.control refl);
-          zone_passed = stays Role.Zone control g.zone_passed m.read (m.zone refl);
+          located_there = (rw i.says at g.located_there) ∙ step_same name key client (best_seen best) a b _ (decode (drop span.next stream)) is_seen;
+          level_passed = turned Role.Level level l a g.level_passed m.read m.level x;
+          control_passed = turned Role.Control control c b g.control_passed m.read m.control y;
+          zone_passed = turned Role.Zone control c b g.zone_passed m.read m.zone y;
         }
 
 -- where the pass over plain records stopped
-module _ (client name stream : List ℕ) (best : Located) (level control : Part) (at : ℕ) (g : Going client name stream best level control at) (x : Stop) (is : IsStop name stream at x) where
-  pub ended_goes : x ≡ Stop.Ended → Going client name stream best level control (length stream)
-  ended_goes q = moves client name stream best level control at g (length stream) (rw q at is)
+module _ (client name stream : List ℕ) (best : Located) (level control : Option Part) (at : ℕ) (g : Going client name stream best level control at) where
+  module _ (stop : Stop) (stopped : IsStop name stream at (Some stop)) where
+    reached : Going client name stream best level control stop.at
+    reached = moves client name stream best level control at g stop.at stopped.plain
 
-  module _ (s : Step) (f a m n : ℕ) (q : x ≡ Stop.At s f a m n) where
-    abbrev span : Span
-    span = record { start = a; middle = m; next = n }
-
-    stopped : Stopped name stream at s f a m n
-    stopped = rw q at is
-
-    reached : Going client name stream best level control f
-    reached = moves client name stream best level control at g f stopped.plain
-
-    pub key_ordered : a ≤ m
+    pub key_ordered : stop.span.start ≤ stop.span.middle
     key_ordered = stopped.span.key_first
 
-    pub key_inside : m ≤ length stream
+    pub key_inside : stop.span.middle ≤ length stream
     key_inside = omega (arith, stopped.span.data_behind, stopped.span.inside)
 
-    pub stop_less : at < length stream → length stream - n < length stream - at
-    stop_less h = omega (arith, stopped.plain.ordered, stopped.span.goes_on, stopped.span.inside)
+    pub stop_less : length stream - stop.span.next < length stream - at
+    stop_less = omega (arith, stopped.plain.ordered, stopped.span.goes_on, stopped.span.inside)
 
-    pub breaks : s ≡ Step.Broken → judged_lo Judged.Broken ≡ located_in client (decode stream)
-    breaks b = broken_at client name stream best level control f reached span stopped.span s stopped.is b
+    is_at : (o : Option Step) → stop.step ≡ o
+        → step_seen o ≡ step_of name (take (stop.span.middle - stop.span.start) (drop stop.span.start stream))
+        (record_in (take (stop.span.middle - stop.span.start) (drop stop.span.start stream)) (take (stop.span.next - stop.span.middle) (drop stop.span.middle stream)))
+    is_at o e = rw (← e) stopped.is
 
-    pub prefix_there : (lo : Lo) → s ≡ Step.Location lo → 2 ≤ length (take (m - a) (drop a stream))
-    prefix_there lo b = (located_at client name stream best level control f reached span stopped.span s stopped.is lo b).1
+    pub breaks : stop.step ≡ None → judged_lo None ≡ located_in client (decode stream)
+    breaks e = broken_at client name stream best level control stop.at reached stop.span stopped.span (is_at None e)
 
-    pub location_goes : (lo : Lo) → s ≡ Step.Location lo → (next : Located) → best_seen next ≡ better client (best_seen best) (location (drop 2 (take (m - a) (drop a stream))) (lo_bytes lo))
-        → Going client name stream next level control n
-    location_goes lo b next e = location_at client name stream best level control f reached span stopped.span s stopped.is lo b next e
+    module _ (step : Step) (e : stop.step ≡ Some step) where
+      pub prefix_there : (lo : Lo) → step ≡ Step.Location lo → 2 ≤ length (take (stop.span.middle - stop.span.start) (drop stop.span.start stream))
+      prefix_there lo q = (located_at client name stream best level control stop.at reached stop.span stopped.span lo (is_at (Some (Step.Location lo)) (e ∙ ap (λ (x : Step). Some x) q))).1
 
-    pub both_goes : (l c : Part) → s ≡ Step.Both → l ≡ grown_to level f n → c ≡ grown_to control f n → Going client name stream best l c n
-    both_goes l c b y z = both_at client name stream best level control f reached span stopped.span s stopped.is l c b y z
+      pub location_goes : (lo : Lo) → step ≡ Step.Location lo → (next : Located)
+          → best_seen next ≡ better client (best_seen best) (location (drop 2 (take (stop.span.middle - stop.span.start) (drop stop.span.start stream))) (lo_bytes lo))
+          → Going client name stream next level control stop.span.next
+      location_goes lo q next m = location_at client name stream best level control stop.at reached stop.span stopped.span lo (is_at (Some (Step.Location lo)) (e ∙ ap (λ (x : Step). Some x) q)) next m
 
-    pub candidate_goes : (l : Part) → s ≡ Step.Candidate → l ≡ grown_to level f n → Going client name stream best l control n
-    candidate_goes l b y = candidate_at client name stream best level control f reached span stopped.span s stopped.is l b y
+      pub owned_goes : (a b : Bool) → step ≡ Step.Owned a b → (l c : Option Part) → l ≡ grown_to level a stop.at stop.span.next → c ≡ grown_to control b stop.at stop.span.next
+          → Going client name stream best l c stop.span.next
+      owned_goes a b q l c x y = owned_at client name stream best level control stop.at reached stop.span stopped.span a b (is_at (Some (Step.Owned a b)) (e ∙ ap (λ (x : Step). Some x) q)) l c x y
 
-    pub control_goes : (c : Part) → s ≡ Step.Control → c ≡ grown_to control f n → Going client name stream best level c n
-    control_goes c b z = control_at client name stream best level control f reached span stopped.span s stopped.is c b z
+  module _ (is : IsStop name stream at None) where
+    end : Going client name stream best level control (length stream)
+    end = moves client name stream best level control at g (length stream) is
 
-    pub other_goes : s ≡ Step.Other → Going client name stream best level control n
-    other_goes b = other_at client name stream best level control f reached span stopped.span s stopped.is b
+    pub all_located : (level control : Part) → judged_lo (Some (record { here = best.lo; level = level; control = control })) ≡ located_in client (decode stream)
+    unfolding judged_lo located_from best_of best_seen
+    all_located level control = sym (end.located_there ∙ rw (drop_of_length-le stream {i = length stream} (omega arith), decode_nil))
 
-module _ (client name stream : List ℕ) (best : Located) (level control : Part) (at : ℕ) (g : Going client name stream best level control at) (h : length stream ≤ at) where
-  pub all_located : judged_lo (Judged.Whole best.lo level.from level.until control.from control.until) ≡ located_in client (decode stream)
-  unfolding judged_lo located_from best_of best_seen
-  all_located = sym (g.located_there ∙ rw (drop_of_length-le stream h, decode_nil))
+    pub all_covered : (l c : Part) → l ≡ part_of level → c ≡ part_of control → Covered name stream (Some (record { here = best.lo; level = l; control = c }))
+    all_covered l c x y = rw (x, y) (
+      covers Role.Level name stream (part_of level).from (part_of level).until (length stream) end.level_passed end.inside (omega arith),
+      covers Role.Control name stream (part_of control).from (part_of control).until (length stream) end.control_passed end.inside (omega arith),
+      covers Role.Zone name stream (part_of control).from (part_of control).until (length stream) end.zone_passed end.inside (omega arith),
+    )
 
-  pub all_covered : Covered name stream (Judged.Whole best.lo level.from level.until control.from control.until)
-  all_covered = (
-    covers Role.Level name stream level.from level.until at g.level_passed g.inside h,
-    covers Role.Control name stream control.from control.until at g.control_passed g.inside h,
-    covers Role.Zone name stream control.from control.until at g.zone_passed g.inside h,
-  )
-
-pub ruleset locate_laws = (rules, at_first, ended_goes, key_ordered, key_inside, stop_less, breaks, prefix_there, location_goes, both_goes, candidate_goes, control_goes, other_goes, all_located, all_covered)
-
--- ---- a part
-
-pub new_part : (p : Part) (at next : ℕ) → p.until ≡ 0 → record { from = at; until = next } ≡ grown_to p at next
-unfolding grown_to pick
-new_part p at next z = rw (eq-eqb p.until 0 z)
-
-pub longer_part : (p : Part) (at next : ℕ) → (p.until ≡ 0 → ⊥) → record { from = p.from; until = next } ≡ grown_to p at next
-unfolding grown_to pick
-longer_part p at next z = rw (ne_eqb p.until 0 z)
-
-pub ruleset grown_laws = (rules, new_part, longer_part)
+pub ruleset locate_laws = (rules, at_first, key_ordered, key_inside, stop_less, breaks, prefix_there, location_goes, owned_goes, all_located, all_covered)

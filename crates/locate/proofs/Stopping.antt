@@ -1,11 +1,12 @@
 -- Records that are nothing to the pass, and the one at which it stops.
 use mathlib.Core.Path.{◌≡◌, refl, ap, ◌∙◌, sym}
-use mathlib.Core.Bool.{Bool, true, false}
+use mathlib.Core.Bool.{Bool, true, false, not}
 use mathlib.Core.List.{List, [], ◌∷◌, ◌++◌}
 use Rattle.std.specs.Prelude.{Option, Some, None}
 use Prim.Native.Nat.{ℕ, ◌-◌, ◌≤◌}
 use native.Mathlib.Omega.{arith}
 use borrow.Author.Rules.{rules}
+use borrow.Author.Tests.{not-false}
 use lib.ListN.{length, take, drop}
 use Rattle.rules.specs.Lists.{pick}
 use Rattle.rules.specs.Records.{Record, location, resource}
@@ -21,10 +22,9 @@ use Rattle.ranks.specs.Ranks.{ends_in, rank_in, largest, seen_rank}
 use Rattle.ranks.specs.declared.Role.{Role}
 use Rattle.picks.proofs.Picking.{ends}
 use Rattle.locate.specs.declared.Step.{Step}
-use Rattle.locate.specs.declared.Stop.{Stop}
 use Rattle.locate.specs.Locations.{located_from}
 use Rattle.locate.specs.Reaches.{Plain}
-use Rattle.locate.specs.Steps.{malformed, located, seen, may_answer, may_control, related_step, step_seen, step_of}
+use Rattle.locate.specs.Steps.{Stepped, malformed, located, seen, plain, may_answer, may_control, related_step, step_seen, step_of}
 use Rattle.locate.specs.Stops.{IsStop}
 use Rattle.locate.proofs.Covering.{Read, NoRank, located_rank, unended, no_answer, no_control}
 use Rattle.locate.proofs.Unranked.{one_more}
@@ -113,6 +113,14 @@ module _ (name key rdata : List ℕ) where
 
 -- ---- records that are nothing to the pass
 
+plain_seen : (s : Stepped) → plain s ≡ true → s ≡ seen false false
+unfolding plain
+plain_seen malformed e = let z : ◌≡◌ {A = ℕ} 0 1 = cc in absurd (omega arith)
+plain_seen (located lo) e = let z : ◌≡◌ {A = ℕ} 0 1 = cc in absurd (omega arith)
+plain_seen (seen false false) e = refl
+plain_seen (seen true b) e = let z : ◌≡◌ {A = ℕ} 0 1 = cc in absurd (omega arith)
+plain_seen (seen false true) e = let z : ◌≡◌ {A = ℕ} 0 1 = cc in absurd (omega arith)
+
 pub plain_none : (name stream : List ℕ) (from : ℕ) → from ≤ length stream → Plain name stream from from
 unfolding size_of_all largest
 plain_none name stream from h = record {
@@ -132,11 +140,11 @@ module _ (name stream : List ℕ) (from at : ℕ) (p : Plain name stream from at
   abbrev rdata : List ℕ
   rdata = take (span.next - span.middle) (drop span.middle stream)
 
-  module _ (r : Step) (q : step_seen r ≡ step_of name key (record_in key rdata)) where
-    pub plain_more : r ≡ Step.Other → Plain name stream from span.next
-    unfolding step_seen size_of_all part
-    plain_more b =
-        let e : step_of name key (record_in key rdata) ≡ seen false false = sym q ∙ ap step_seen b in
+  module _ (r : Option Step) (q : step_seen r ≡ step_of name key (record_in key rdata)) where
+    pub plain_more : (t : Bool) → t ≡ plain (step_seen r) → not t ≡ false → Plain name stream from span.next
+    unfolding size_of_all part
+    plain_more t b n =
+        let e : step_of name key (record_in key rdata) ≡ seen false false = sym q ∙ plain_seen (step_seen r) (sym b ∙ not-false t n) in
         let m = met name key rdata false false e in
         let o = m.read in
         record {
@@ -154,10 +162,10 @@ module _ (name stream : List ℕ) (from at : ℕ) (p : Plain name stream from at
         no_rank m Role.Control here moment = unfold rank_in in (m.control refl here moment ∙ ap (rank_in Role.Control name here moment) m.read.is)
         no_rank m Role.Zone here moment = unfold rank_in in (m.zone refl here moment ∙ ap (rank_in Role.Zone name here moment) m.read.is)
 
-    pub stops_at : (x : Step) → r ≡ x → IsStop name stream from (Stop.At x at span.start span.middle span.next)
-    stops_at x e = record { plain = p; span = i; is = sym (ap step_seen e) ∙ q }
+    pub stops_at : IsStop name stream from (Some (record { step = r; at = at; span = span }))
+    stops_at = record { plain = p; span = i; is = q }
 
-pub stops_nowhere : (name stream : List ℕ) (from at : ℕ) → Plain name stream from at → length stream ≤ at → IsStop name stream from Stop.Ended
+pub stops_nowhere : (name stream : List ℕ) (from at : ℕ) → Plain name stream from at → length stream ≤ at → IsStop name stream from None
 stops_nowhere name stream from at p h = let e : at ≡ length stream = omega (arith, p.inside) in rw e at p
 
 pub ruleset stop_laws = (rules, plain_none, plain_more, stops_at, stops_nowhere)

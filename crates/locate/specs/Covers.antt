@@ -1,5 +1,5 @@
 -- The part of a stream that has every record of a role: those that can answer for a name, or make its control name.
-use Rattle.std.specs.Prelude.{ℕ, ◌≤◌, ◌≡◌, true, List, [], length, take, drop}
+use Rattle.std.specs.Prelude.{ℕ, ◌≤◌, ◌≡◌, true, List, [], length, take, drop, Option, Some, None}
 use Rattle.rules.specs.Lists.{is_some, value_or}
 use Rattle.rules.specs.Reading.{decode}
 use Rattle.ranks.specs.Ranks.{largest, seen_rank}
@@ -17,7 +17,10 @@ pub record Covers (role : Role) (name stream : List ℕ) (from until : ℕ) : Ty
   pub picks : (type : ℕ) (here : List ℕ) (moment best ordinal : ℕ) → is_some (decode stream) ≡ true → (best ≡ 0 → ⊥)
       → picked_from type role name here moment best from ordinal (value_or [] (decode (drop from (take until stream)))) ≡ picked_from type role name here moment best 0 ordinal (value_or [] (decode stream))
 
--- what is promised of the part that was found; of a stream that isn't whole records, none
-abbrev pub Covered : List ℕ → List ℕ → Judged → Type 0
-Covered name stream Judged.Broken = Unit {0}
-Covered name stream (Judged.Whole lo from until first last) = Covers Role.Level name stream from until × Covers Role.Control name stream first last × Covers Role.Zone name stream first last
+-- what is promised of the parts that were found; of a stream that isn't whole records, nothing
+abbrev pub Covered : List ℕ → List ℕ → Option Judged → Type 0
+Covered name stream None = Unit {0}
+Covered name stream (Some judged) =
+    Covers Role.Level name stream judged.level.from judged.level.until
+    × Covers Role.Control name stream judged.control.from judged.control.until
+    × Covers Role.Zone name stream judged.control.from judged.control.until

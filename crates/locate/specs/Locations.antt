@@ -18,6 +18,6 @@ located_from client best (Some rs) = Some (best_of client best rs).lo
 unfoldable pub best_seen : Located → Best
 best_seen r = record { lo = lo_bytes r.lo; at_least = r.least }
 
-unfoldable pub judged_lo : Judged → Option (List ℕ)
-judged_lo Judged.Broken = None
-judged_lo (Judged.Whole lo from until first last) = Some (lo_bytes lo)
+unfoldable pub judged_lo : Option Judged → Option (List ℕ)
+judged_lo None = None
+judged_lo (Some judged) = Some (lo_bytes judged.here)

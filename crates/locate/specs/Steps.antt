@@ -1,5 +1,5 @@
 -- The pass over a stream, record by record.
-use Rattle.std.specs.Prelude.{ℕ, Bool, true, false, not, ◌&&◌, ◌||◌, List, length, eqb, Option, Some, None}
+use Rattle.std.specs.Prelude.{ℕ, Bool, false, not, ◌&&◌, ◌||◌, List, length, eqb, Option, Some, None}
 use Rattle.rules.specs.Lists.{pick}
 use Rattle.rules.specs.Records.{Record, location, resource, lo_bytes}
 use Rattle.rules.specs.Bytes.{wild}
@@ -12,13 +12,16 @@ pub data Stepped : Type 0 where
   located : List ℕ → Stepped
   seen : Bool → Bool → Stepped
 
-unfoldable pub step_seen : Step → Stepped
-step_seen Step.Broken = malformed
-step_seen (Step.Location lo) = located (lo_bytes lo)
-step_seen Step.Both = seen true true
-step_seen Step.Candidate = seen true false
-step_seen Step.Control = seen false true
-step_seen Step.Other = seen false false
+unfoldable pub step_seen : Option Step → Stepped
+step_seen None = malformed
+step_seen (Some (Step.Location lo)) = located (lo_bytes lo)
+step_seen (Some (Step.Owned answers controls)) = seen answers controls
+
+-- neither
+unfoldable pub plain : Stepped → Bool
+plain malformed = false
+plain (located lo) = false
+plain (seen answers controls) = not (answers || controls)
 
 -- of a record whose key the name ends in: a wildcard's, or one of the name itself, may answer
 unfoldable pub may_answer : List ℕ → List ℕ → Bool → Bool

@@ -3,21 +3,21 @@
 
 #![tactic(auto)]
 
-ghost use Rattle.std.specs.Prelude.{◌≡◌, true, map, ◌+◌, ◌*◌, ◌≤◌, length, drop, get_or};
-ghost use Rattle.rules.specs.Lists.{lower, begins_with};
+ghost use Rattle.std.specs.Prelude.{◌≡◌, ◌||◌, map, ◌≤◌, length, drop, eqb, Some};
+ghost use Rattle.rules.specs.Lists.{lower};
 ghost use Rattle.rules.specs.Records.{location, lo_bytes};
 ghost use Rattle.rules.specs.Questions.{matches, better};
 ghost use Rattle.rules.specs.Reading.{record_in, decode};
 ghost use Rattle.locate.specs.Covers.{Covered};
 ghost use Rattle.locate.specs.Locations.{best_seen, judged_lo, located_in};
 ghost use Rattle.locate.specs.Grown.{grown_to};
-ghost use Rattle.locate.specs.Steps.{seen, related_step, step_seen, step_of};
+ghost use Rattle.locate.specs.Steps.{plain, related_step, step_seen, step_of};
 ghost use Rattle.locate.specs.Stops.{IsStop};
 
 use judge::{Seen, record_in, type_in};
 use ranks::is_end;
 use rules::quantities::Lo;
-use stream::span_at;
+use stream::{Span, span_at};
 
 // The location of the longest prefix so far, and how long a better prefix is at least.
 #[derive(Clone, Copy)]
@@ -26,55 +26,34 @@ struct Located {
     least: usize,
 }
 
-// What a record is to the pass: malformed, a location, one that may answer, one that may make a control name, both, or any other.
+// What a record is to the pass: a location; or one with an owner, whether it may answer and whether it may make a control name.
 #[derive(Clone, Copy)]
 enum Step {
-    Broken,
     Location(Lo),
-    Both,
-    Candidate,
-    Control,
-    Other,
+    Owned { answers: bool, controls: bool },
 }
 
-// What stands behind records that are nothing to the pass: the end; or a record that is something to it, where it begins, where its key and its
-// data begin, and where it ends.
+// The record that stands behind records that are nothing to the pass: what it is, or that it is malformed, and where it begins.
 #[derive(Clone, Copy)]
-enum Stop {
-    Ended,
-    At(Step, usize, usize, usize, usize),
+struct Stop {
+    step: Option<Step>,
+    at: usize,
+    span: Span,
 }
 
-// A part of a stream, from one place up to another; its end is 0 where nothing was found.
+// A part of a stream, from one place up to another.
 #[derive(Clone, Copy)]
-struct Part {
-    from: usize,
-    until: usize,
+pub struct Part {
+    pub from: usize,
+    pub until: usize,
 }
 
-// Whether a stream is whole records, and then the client's location, the part outside which no record can answer, and the part outside which none can
-// make a control name.
+// Of whole records: the client's location, the part outside which no record can answer, and the part outside which none can make a control name.
 #[derive(Clone, Copy)]
-pub enum Judged {
-    Whole(Lo, usize, usize, usize, usize),
-    Broken,
-}
-
-fn begins_with(prefix: &[u8], bytes: &[u8]) -> bool
-    ensures { result ≡ begins_with prefix.now bytes.now }
-{
-    let n = prefix.len();
-    if bytes.len() < n {
-        return false;
-    }
-    let mut i: usize = 0;
-    while i < n {
-        if prefix[i] != bytes[i] {
-            return false;
-        }
-        i += 1;
-    }
-    true
+pub struct Judged {
+    pub here: Lo,
+    pub level: Part,
+    pub control: Part,
 }
 
 // Whether a client is in a prefix. Only one of 4 bytes can be in any but the empty prefix.
@@ -82,9 +61,9 @@ fn matches(client: &[u8], prefix: &[u8]) -> bool
     ensures { result ≡ matches client.now prefix.now }
 {
     if client.len() != 4 {
-        return prefix.len() == 0;
+        return prefix.is_empty();
     }
-    begins_with(prefix, client)
+    client.starts_with(prefix)
 }
 
 // The better of the location so far and another, by its key, which has the prefix behind two bytes.
@@ -105,53 +84,60 @@ fn better_in(client: &[u8], located: Located, found: Lo, key: &[u8]) -> Located
     }
 }
 
-// What a record is whose key the name ends in.
-fn related_step(name: &[u8], key: &[u8], wild: bool, rtype: u16) -> Step
-    ensures { step_seen result ≡ related_step (map lower name.now) key.now wild rtype }
+// Whether records of a type, NS or SOA, make a control name.
+fn is_control(rtype: u16) -> bool
+    ensures { result ≡ (eqb rtype 2 || eqb rtype 6) }
 {
-    if wild {
-        return Step::Candidate;
-    }
-    let own = name.len() == key.len();
-    if rtype == 2 {
-        return controls(own);
-    }
-    if rtype == 6 {
-        return controls(own);
-    }
-    if own {
-        return Step::Candidate;
-    }
-    Step::Other
+    matches!(rtype, 2 | 6)
 }
 
-fn controls(own: bool) -> Step
-    ensures { step_seen result ≡ seen own true }
+// What a record is whose key the name ends in: a wildcard's, or one of the name itself, may answer; an ordinary one may make a control name.
+fn related_step(name: &[u8], key: &[u8], wild: bool, rtype: u16) -> Step
+    ensures { step_seen (Some result) ≡ related_step (map lower name.now) key.now wild rtype }
 {
-    if own {
-        return Step::Both;
+    if wild {
+        return Step::Owned {
+            answers: true,
+            controls: false,
+        };
     }
-    Step::Control
+    Step::Owned {
+        answers: name.len() == key.len(),
+        controls: is_control(rtype),
+    }
 }
 
 // What a record is to the pass. Its type is read only where it is wanted, and not for each record that is judged.
-fn step_in(name: &[u8], key: &[u8], rdata: &[u8]) -> Step
+fn step_in(name: &[u8], key: &[u8], rdata: &[u8]) -> Option<Step>
     ensures { step_seen result ≡ step_of (map lower name.now) key.now (record_in key.now rdata.now) }
 {
-    match record_in(key, rdata) {
-        None => Step::Broken,
-        Some(Seen::Location(found)) => Step::Location(found),
-        Some(Seen::Resource { wild, .. }) => {
+    match record_in(key, rdata)? {
+        Seen::Location(lo) => Some(Step::Location(lo)),
+        Seen::Resource { wild, .. } => {
             if !is_end(name, key) {
-                return Step::Other;
+                return Some(Step::Owned {
+                    answers: false,
+                    controls: false,
+                });
             }
-            related_step(name, key, wild, type_in(rdata))
+            Some(related_step(name, key, wild, type_in(rdata)))
         }
     }
 }
 
+// Whether a record is nothing to the pass.
+fn is_plain(step: Option<Step>) -> bool
+    ensures { result ≡ plain (step_seen step) }
+{
+    match step {
+        Some(Step::Owned { answers, controls }) => !(answers | controls),
+        Some(Step::Location(_)) => false,
+        None => false,
+    }
+}
+
 // Passes over records that are nothing to the pass. Most are, so this loop keeps no more than it needs to judge them.
-fn next_stop(stream: &[u8], name: &[u8], from: usize) -> Stop
+fn next_stop(stream: &[u8], name: &[u8], from: usize) -> Option<Stop>
     requires { from ≤ length stream.now }
     ensures { IsStop (map lower name.now) stream.now from result }
 {
@@ -159,97 +145,69 @@ fn next_stop(stream: &[u8], name: &[u8], from: usize) -> Stop
     let mut at = from;
     while at < n {
         let span = span_at(stream, at);
-        let start = span.start;
-        let middle = span.middle;
-        let next = span.next;
-        match step_in(name, &stream[start..middle], &stream[middle..next]) {
-            Step::Other => {
-                at = next;
-            }
-            Step::Broken => {
-                return Stop::At(Step::Broken, at, start, middle, next);
-            }
-            Step::Location(lo) => {
-                return Stop::At(Step::Location(lo), at, start, middle, next);
-            }
-            Step::Both => {
-                return Stop::At(Step::Both, at, start, middle, next);
-            }
-            Step::Candidate => {
-                return Stop::At(Step::Candidate, at, start, middle, next);
-            }
-            Step::Control => {
-                return Stop::At(Step::Control, at, start, middle, next);
-            }
+        let Span {
+            start,
+            middle,
+            next,
+        } = span;
+        let step = step_in(name, &stream[start..middle], &stream[middle..next]);
+        if !is_plain(step) {
+            return Some(Stop { step, at, span });
         }
+        at = next;
     }
-    Stop::Ended
+    None
 }
 
-// A part up to the end of one more record.
-fn grown(part: Part, at: usize, next: usize) -> Part
-    ensures { result ≡ grown_to part at next }
+// A part up to the end of one more record, where it takes that.
+fn grown(part: Option<Part>, taken: bool, at: usize, next: usize) -> Option<Part>
+    ensures { result ≡ grown_to part taken at next }
 {
-    let until = part.until;
-    if until == 0 {
-        return Part {
+    if !taken {
+        return part;
+    }
+    match part {
+        Some(Part { from, .. }) => Some(Part { from, until: next }),
+        None => Some(Part {
             from: at,
             until: next,
-        };
+        }),
     }
-    let from = part.from;
-    Part { from, until: next }
 }
 
 // Every record is read, also behind the last location: a stream is judged whole before anything of it is answered.
-pub fn judge_and_locate(stream: &[u8], client: &[u8], name: &[u8]) -> Judged
+pub fn judge_and_locate(stream: &[u8], client: &[u8], name: &[u8]) -> Option<Judged>
     ensures result_value { judged_lo result ≡ located_in client.now (decode stream.now) }
     ensures covered { Covered (map lower name.now) stream.now result }
 {
-    let n = stream.len();
     let mut located = Located {
         lo: Lo::Every,
         least: 0,
     };
-    let mut level = Part { from: 0, until: 0 };
-    let mut control = Part { from: 0, until: 0 };
+    let mut level: Option<Part> = None;
+    let mut control: Option<Part> = None;
     let mut at: usize = 0;
-    while at < n {
-        match next_stop(stream, name, at) {
-            Stop::Ended => {
-                at = n;
+    while let Some(stop) = next_stop(stream, name, at) {
+        let Span {
+            start,
+            middle,
+            next,
+        } = stop.span;
+        match stop.step? {
+            Step::Location(lo) => {
+                located = better_in(client, located, lo, &stream[start..middle]);
             }
-            Stop::At(step, found, start, middle, next) => match step {
-                Step::Broken => {
-                    return Judged::Broken;
-                }
-                Step::Location(lo) => {
-                    located = better_in(client, located, lo, &stream[start..middle]);
-                    at = next;
-                }
-                Step::Both => {
-                    level = grown(level, found, next);
-                    control = grown(control, found, next);
-                    at = next;
-                }
-                Step::Candidate => {
-                    level = grown(level, found, next);
-                    at = next;
-                }
-                Step::Control => {
-                    control = grown(control, found, next);
-                    at = next;
-                }
-                Step::Other => {
-                    at = next;
-                }
-            },
+            Step::Owned { answers, controls } => {
+                level = grown(level, answers, stop.at, next);
+                control = grown(control, controls, stop.at, next);
+            }
         }
+        at = next;
     }
-    let lo = located.lo;
-    let from = level.from;
-    let until = level.until;
-    let first = control.from;
-    let last = control.until;
-    Judged::Whole(lo, from, until, first, last)
+    let nowhere = Part { from: 0, until: 0 };
+    Some(Judged {
+        here: located.lo,
+        level: level.unwrap_or(nowhere),
+        control: control.unwrap_or(nowhere),
+    })
 }

@@ -15,7 +15,7 @@ use judge::known::known_in;
 use ranks::{Role, is_end, rank_in};
 use rules::quantities::{Lo, Moment, Shared, Ttl};
 use rules::replies::Reply;
-use stream::span_at;
+use stream::{Span, span_at};
 
 // Whether a record is of a rank and of the type asked for, 255 for any.
 fn is_wanted(
@@ -118,10 +118,11 @@ pub fn pick_record(
     let mut left = ordinal;
     let mut at = from;
     while at < n {
-        let span = span_at(stream, at);
-        let start = span.start;
-        let middle = span.middle;
-        let next = span.next;
+        let Span {
+            start,
+            middle,
+            next,
+        } = span_at(stream, at);
         if !is_end(name, &stream[start..middle]) {
             at = next;
         } else {

@@ -8,8 +8,6 @@ use native.Mathlib.Omega.{arith}
 use borrow.Author.Rules.{rules}
 use borrow.Author.Tests.{eq-eqb, ne_eqb, le-leb, lt-leb, not-false}
 use lib.ListN.{length}
-use lib.Dec.{eqb}
-use Rattle.rules.specs.declared.quantities.Lo.{Lo}
 use Rattle.rules.specs.declared.replies.Outcome.{Outcome}
 use Rattle.rules.specs.declared.replies.Reply.{Reply}
 use Rattle.rules.specs.declared.replies.Response.{Response}
@@ -20,9 +18,7 @@ use Rattle.rules.specs.Records.{Record, lo_bytes}
 use Rattle.rules.specs.Bytes.{size}
 use Rattle.rules.specs.Questions.{Question, Placed, placed_from, location_of, answers}
 use Rattle.rules.specs.Reading.{moment_end, is_client, decode, refusal, response_from, response_decoded, ask_response}
-use Rattle.ranks.specs.declared.Role.{Role}
 use Rattle.locate.specs.declared.Judged.{Judged}
-use Rattle.locate.specs.Covers.{Covers, Covered}
 use Rattle.locate.specs.Locations.{located_in, judged_lo}
 use Rattle.rules.proofs.Decoding.{wire_lower}
 use Rattle.reader.specs.Answers.{answered_from}
@@ -34,11 +30,15 @@ pub four : (client : List ℕ) → length client ≡ 4 → true ≡ is_client cl
 unfolding is_client
 four client e = rw (eq-eqb _ _ e)
 
-pub sixteen : (client : List ℕ) → (length client ≡ 4 → ⊥) → eqb (length client) 16 ≡ is_client client
+pub sixteen : (client : List ℕ) → length client ≡ 16 → true ≡ is_client client
 unfolding is_client
-sixteen client e = rw (ne_eqb _ _ e)
+sixteen client e = rw e
 
-pub ruleset client_laws = (rules, four, sixteen)
+pub neither : (client : List ℕ) → (length client ≡ 4 → ⊥) → (length client ≡ 16 → ⊥) → false ≡ is_client client
+unfolding is_client
+neither client e f = rw (ne_eqb _ _ e, ne_eqb _ _ f)
+
+pub ruleset client_laws = (rules, four, sixteen, neither)
 
 -- ---- the judged stream
 
@@ -53,49 +53,37 @@ unfolding response_from answers
 replied q ordinal rs w =
     rw (placed_back 0 rs) (sym (answer_is q.type (map lower q.name) (location_of q.client rs) q.moment ordinal rs (wire_lower q.name (rw w tt))))
 
-module _ (client : List ℕ) (here : Lo) (from until first last : ℕ) where
-  located : (o : Option (List Record)) → judged_lo (Judged.Whole here from until first last) ≡ located_in client o → is_some o ≡ true
+module _ (client : List ℕ) (j : Judged) where
+  located : (o : Option (List Record)) → judged_lo (Some j) ≡ located_in client o → is_some o ≡ true
   unfolding judged_lo located_in is_some
   located None e = let z : ◌≡◌ {A = ℕ} 0 1 = cc in absurd (omega arith)
   located (Some rs) e = refl
 
-  located_here : (o : Option (List Record)) → judged_lo (Judged.Whole here from until first last) ≡ located_in client o → lo_bytes here ≡ location_of client (value_or [] o)
+  located_here : (o : Option (List Record)) → judged_lo (Some j) ≡ located_in client o → lo_bytes j.here ≡ location_of client (value_or [] o)
   unfolding judged_lo located_in value_or
   located_here None e = let z : ◌≡◌ {A = ℕ} 0 1 = cc in absurd (omega arith)
   located_here (Some rs) e = cc
 
-module _ (stream client : List ℕ) (j : Judged) (e : judged_lo j ≡ located_in client (decode stream)) where
-  pub judged_whole : (here : Lo) (from until first last : ℕ) → j ≡ Judged.Whole here from until first last → is_some (decode stream) ≡ true
-  judged_whole here from until first last w = located client here from until first last (decode stream) (rw w at e)
-
-  not_whole : (q : Question) (ordinal : ℕ) → j ≡ Judged.Broken → refusal AskFault.Records ≡ response_decoded (decode stream) q ordinal
-  not_whole q ordinal w = go (decode stream) (rw w at e)
+module _ (stream client : List ℕ) where
+  not_whole : (q : Question) (ordinal : ℕ) → judged_lo None ≡ located_in client (decode stream) → refusal AskFault.Records ≡ response_decoded (decode stream) q ordinal
+  not_whole q ordinal e = go (decode stream) e
     where
-      go : (o : Option (List Record)) → judged_lo Judged.Broken ≡ located_in client o → refusal AskFault.Records ≡ response_decoded o q ordinal
+      go : (o : Option (List Record)) → judged_lo None ≡ located_in client o → refusal AskFault.Records ≡ response_decoded o q ordinal
       go None e = unfold response_decoded in refl
       go (Some rs) e = unfold judged_lo located_in in (let z : ◌≡◌ {A = ℕ} 0 1 = cc in absurd (omega arith))
 
-  whole_reply : (q : Question) (ordinal : ℕ) (here : Lo) (from until first last : ℕ) (r : Response) → is_wire q.name ≡ true → q.client ≡ client → j ≡ Judged.Whole here from until first last
-      → r ≡ answered_from q.type (map lower q.name) (lo_bytes here) q.moment ordinal (value_or [] (decode stream)) → r ≡ response_decoded (decode stream) q ordinal
-  whole_reply q ordinal here from until first last r n k w a = go (decode stream) (rw w at e) a
-    where
-      go : (o : Option (List Record)) → judged_lo (Judged.Whole here from until first last) ≡ located_in client o
-          → r ≡ answered_from q.type (map lower q.name) (lo_bytes here) q.moment ordinal (value_or [] o) → r ≡ response_decoded o q ordinal
-      go None e a = unfold judged_lo located_in in (let z : ◌≡◌ {A = ℕ} 0 1 = cc in absurd (omega arith))
-      go (Some rs) e a = unfold response_decoded in (a ∙ rw (located_here client here from until first last (Some rs) e, ← k) (unfold value_or in sym (replied q ordinal rs n)))
+  module _ (j : Judged) (e : judged_lo (Some j) ≡ located_in client (decode stream)) where
+    pub judged_whole : is_some (decode stream) ≡ true
+    judged_whole = located client j (decode stream) e
 
-module _ (name stream : List ℕ) (j : Judged) (here : Lo) (from until first last : ℕ) (s : Covered name stream j) (w : j ≡ Judged.Whole here from until first last) where
-  judged_covers : Covers Role.Level name stream from until × Covers Role.Control name stream first last × Covers Role.Zone name stream first last
-  judged_covers = rw w at s
-
-  pub level_covers : Covers Role.Level name stream from until
-  level_covers = judged_covers.0
-
-  pub control_covers : Covers Role.Control name stream first last
-  control_covers = judged_covers.1
-
-  pub zone_covers : Covers Role.Zone name stream first last
-  zone_covers = judged_covers.2
+    whole_reply : (q : Question) (ordinal : ℕ) (r : Response) → is_wire q.name ≡ true → q.client ≡ client
+        → r ≡ answered_from q.type (map lower q.name) (lo_bytes j.here) q.moment ordinal (value_or [] (decode stream)) → r ≡ response_decoded (decode stream) q ordinal
+    whole_reply q ordinal r n k a = go (decode stream) e a
+      where
+        go : (o : Option (List Record)) → judged_lo (Some j) ≡ located_in client o
+            → r ≡ answered_from q.type (map lower q.name) (lo_bytes j.here) q.moment ordinal (value_or [] o) → r ≡ response_decoded o q ordinal
+        go None e a = unfold judged_lo located_in in (let z : ◌≡◌ {A = ℕ} 0 1 = cc in absurd (omega arith))
+        go (Some rs) e a = unfold response_decoded in (a ∙ rw (located_here client j (Some rs) e, ← k) (unfold value_or in sym (replied q ordinal rs n)))
 
 -- ---- the refusals
 
@@ -120,17 +108,17 @@ module _ (stream name client : List ℕ) (type moment ordinal : ℕ) (t : Bool) 
       unfolding ask_response moment_end pick
       no_client r y e = rw (← n, named, lt-leb 9223372036854775808 moment (omega arith), ← c, y) e
 
-      module _ (addressed : not u ≡ false) (j : Judged) (e : judged_lo j ≡ located_in client (decode stream)) where
+      module _ (addressed : not u ≡ false) where
         decided : ask_response stream question ordinal ≡ response_decoded (decode stream) question ordinal
         unfolding ask_response moment_end pick
         decided = rw (← n, named, lt-leb 9223372036854775808 moment (omega arith), ← c, addressed)
 
-        pub no_records : (r : Response) → j ≡ Judged.Broken → r ≡ refusal AskFault.Records → r ≡ ask_response stream question ordinal
-        no_records r w f = f ∙ not_whole stream client j e question ordinal w ∙ sym decided
+        pub no_records : (r : Response) → judged_lo None ≡ located_in client (decode stream) → r ≡ refusal AskFault.Records → r ≡ ask_response stream question ordinal
+        no_records r e f = f ∙ not_whole stream client question ordinal e ∙ sym decided
 
-        pub is_answered : (here : Lo) (from until first last : ℕ) (r : Response) → j ≡ Judged.Whole here from until first last
-            → r ≡ answered_from type (map lower name) (lo_bytes here) moment ordinal (value_or [] (decode stream)) → r ≡ ask_response stream question ordinal
-        is_answered here from until first last r w a = whole_reply stream client j e question ordinal here from until first last r is_name refl w a ∙ sym decided
+        pub is_answered : (j : Judged) → judged_lo (Some j) ≡ located_in client (decode stream) → (r : Response)
+            → r ≡ answered_from type (map lower name) (lo_bytes j.here) moment ordinal (value_or [] (decode stream)) → r ≡ ask_response stream question ordinal
+        is_answered j e r a = whole_reply stream client j e question ordinal r is_name refl a ∙ sym decided
 
 -- a refusal's response
 pub refuses : (fault : AskFault) → record { outcome = Outcome.Refused; reply = Reply.Refused fault } ≡ refusal fault
@@ -139,4 +127,4 @@ refuses fault = refl
 
 pub ruleset refused_laws = (rules, refuses)
 
-pub ruleset ask_laws = (rules, judged_whole, level_covers, control_covers, zone_covers, no_name, no_moment, is_name, no_client, no_records, is_answered)
+pub ruleset ask_laws = (rules, judged_whole, no_name, no_moment, is_name, no_client, no_records, is_answered)

@@ -1,53 +1,22 @@
 -- The passes over the part of a stream that may answer, and what is said of what they find.
 use mathlib.Core.Path.{◌≡◌, refl, ap, ◌∙◌, sym}
 use mathlib.Core.Bool.{Bool, true, false, not}
-use mathlib.Core.List.{List, []}
+use mathlib.Core.List.{List}
 use Prim.Native.Nat.{ℕ, ◌<◌, ◌≤◌}
 use native.Mathlib.Omega.{arith}
 use borrow.Author.Rules.{rules}
 use borrow.Author.Tests.{eq-eqb, ne_eqb, le-leb, lt-leb, not-true, not-false}
-use lib.ListN.{length, take, drop}
-use lib.Seq.{length-take-le}
 use Rattle.rules.specs.declared.quantities.Ttl.{Ttl}
 use Rattle.rules.specs.declared.replies.AskFault.{AskFault}
 use Rattle.rules.specs.declared.replies.Outcome.{Outcome}
 use Rattle.rules.specs.declared.replies.Reply.{Reply}
 use Rattle.rules.specs.declared.replies.Response.{Response}
-use Rattle.rules.specs.Lists.{pick, is_some, value_or}
+use Rattle.rules.specs.Lists.{pick}
 use Rattle.rules.specs.Records.{Record}
-use Rattle.rules.specs.Reading.{decode}
 use Rattle.ranks.specs.Ranks.{largest, seen_rank}
 use Rattle.ranks.specs.declared.Role.{Role}
 use Rattle.picks.specs.Picks.{picked_from}
-use Rattle.locate.specs.Covers.{Covers}
 use Rattle.reader.specs.Answers.{is_found, said, level_from, zone_from, controlled_from, answered_from}
-
--- ---- the part that can answer
-
-module _ (role : Role) (name stream : List ℕ) (from until : ℕ) (s : Covers role name stream from until) where
-  pub part_there : until ≤ length stream
-  part_there = s.inside
-
-  pub part_long : until ≡ length (take until stream)
-  part_long = sym (length-take-le until stream s.inside)
-
-  pub part_inside : from ≤ length (take until stream)
-  part_inside = omega (arith, length-take-le until stream s.inside, s.ordered)
-
-  module _ (w : is_some (decode stream) ≡ true) where
-    pub part_whole : is_some (decode (drop from (take until stream))) ≡ true
-    part_whole = s.whole w
-
-    pub part_rank : (here : List ℕ) (moment r : ℕ) → r ≡ largest (seen_rank role name here moment) (value_or [] (decode (drop from (take until stream))))
-        → r ≡ largest (seen_rank role name here moment) (value_or [] (decode stream))
-    part_rank here moment r e = e ∙ s.ranks here moment w
-
-    pub part_pick : (type : ℕ) (here : List ℕ) (moment best ordinal : ℕ) (r : Reply) → 0 < best
-        → r ≡ picked_from type role name here moment best from ordinal (value_or [] (decode (drop from (take until stream))))
-        → r ≡ picked_from type role name here moment best 0 ordinal (value_or [] (decode stream))
-    part_pick type here moment best ordinal r z e = e ∙ s.picks type here moment best ordinal w (λ q. omega arith)
-
-pub ruleset part_laws = (rules, part_there, part_long, part_inside, part_whole, part_rank, part_pick)
 
 -- ---- what is said
 
@@ -56,13 +25,13 @@ module _ (reply : Reply) where
   unfolding is_found
   found type life place count e = rw e
 
-  pub none_found : reply ≡ Reply.NoMore → false ≡ is_found reply
-  unfolding is_found
-  none_found e = rw e
+pub none_found : false ≡ is_found Reply.NoMore
+unfolding is_found
+none_found = refl
 
-  pub refused_found : (fault : AskFault) → reply ≡ Reply.Refused fault → false ≡ is_found reply
-  unfolding is_found
-  refused_found fault e = rw e
+pub refused_found : (fault : AskFault) → false ≡ is_found (Reply.Refused fault)
+unfolding is_found
+refused_found fault = refl
 
 pub ruleset found_laws = (rules, found, none_found, refused_found)
 

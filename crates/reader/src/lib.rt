@@ -8,21 +8,19 @@ ghost use Rattle.rules.specs.Reading.{is_client, refusal, ask_response};
 
 mod answer;
 
-use answer::answer;
+use answer::Asked;
 use keys::is_wire;
-use locate::{Judged, judge_and_locate};
+use locate::judge_and_locate;
 use rules::quantities::Moment;
 use rules::replies::{AskFault, Outcome, Reply, Response};
+
+const LAST_MOMENT: u64 = 9223372036854775807;
 
 // Whether a client's address has 4 or 16 bytes.
 fn is_client(client: &[u8]) -> bool
     ensures { result ≡ is_client client.now }
 {
-    let n = client.len();
-    if n == 4 {
-        return true;
-    }
-    n == 16
+    matches!(client.len(), 4 | 16)
 }
 
 fn refused(fault: AskFault) -> Response
@@ -49,18 +47,23 @@ pub fn ask(
     if !is_wire(name) {
         return refused(AskFault::Name);
     }
-    if 9223372036854775807 < moment.0 {
+    if LAST_MOMENT < moment.0 {
         return refused(AskFault::Moment);
     }
     if !is_client(client) {
         return refused(AskFault::Client);
     }
-    match judge_and_locate(records, client, name) {
-        Judged::Broken => refused(AskFault::Records),
-        Judged::Whole(here, from, until, first, last) => {
-            answer(
-                records, name, qtype, here, moment, ordinal, from, until, first, last,
-            )
-        }
-    }
+    let Some(judged) = judge_and_locate(records, client, name) else {
+        return refused(AskFault::Records);
+    };
+    let asked = Asked {
+        stream: records,
+        name,
+        qtype,
+        here: judged.here,
+        moment,
+        level: judged.level,
+        control: judged.control,
+    };
+    asked.answer(ordinal)
 }

@@ -1,20 +1,41 @@
-use Rattle.keys.proofs.Lowered.{part_upper, part_lowered, last_part, lowered_laws}
+use Rattle.keys.proofs.Lowered.{lowered_laws}
 use Rattle.keys.proofs.is_lowered.Goals as goal
 
-pub loop-part-init : goal.loop-part-init
-loop-part-init c = search lowered_laws
+pub is_lowered_part-requires : goal.is_lowered_part-requires
+is_lowered_part-requires c = search lowered_laws
+
+pub returns-then-n-lt16 : goal.returns-then-n-lt16
+returns-then-n-lt16 c = search lowered_laws
+
+pub loop-i-init : goal.loop-i-init
+loop-i-init c = search lowered_laws
+
+pub overflow_sub-n : goal.overflow_sub-n
+overflow_sub-n c = search lowered_laws
+
+pub overflow_add-next : goal.overflow_add-next
+overflow_add-next c = search lowered_laws
+
+pub slice_bounds-is_lowered_part-count : goal.slice_bounds-is_lowered_part-count
+slice_bounds-is_lowered_part-count c = search lowered_laws
+
+pub is_lowered_part-requires-in-loop-i : goal.is_lowered_part-requires-in-loop-i
+is_lowered_part-requires-in-loop-i c = search lowered_laws
 
 pub returns-then-not-is_lowered_part : goal.returns-then-not-is_lowered_part
-returns-then-not-is_lowered_part c =
-    let e = c.in-Some-split_first_chunk.ensures.cases in
-    part_upper _ _ _ _ c.loop-part.invariant e.0 e.1 _ c.is_lowered_part-in-Some-split_first_chunk.ensures (search lowered_laws)
+returns-then-not-is_lowered_part c = search lowered_laws
 
-pub loop-part-preserved : goal.loop-part-preserved
-loop-part-preserved c =
-    let e = c.in-Some-split_first_chunk.ensures.cases in
-    part_lowered _ _ _ _ c.loop-part.invariant e.0 e.1 _ c.is_lowered_part-in-Some-split_first_chunk.ensures (search lowered_laws)
+pub loop-i-smaller : goal.loop-i-smaller
+loop-i-smaller c = search lowered_laws
+
+pub loop-i-preserved : goal.loop-i-preserved
+loop-i-preserved c = search lowered_laws
+
+pub slice_bounds-is_lowered_part-count-2 : goal.slice_bounds-is_lowered_part-count-2
+slice_bounds-is_lowered_part-count-2 c = search lowered_laws
+
+pub is_lowered_part-requires-2 : goal.is_lowered_part-requires-2
+is_lowered_part-requires-2 c = search lowered_laws
 
 pub returns : goal.returns
-returns c =
-    let e = c.in-Some.ensures.cases in
-    last_part _ _ c.in-Some.last.now c.loop-part.invariant c.in_default-split_first_chunk.ensures.cases e.0 e.1.same _ c.is_lowered_part-2.ensures
+returns c = search lowered_laws

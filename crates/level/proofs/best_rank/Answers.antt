@@ -9,8 +9,8 @@ pub returns-then-best-eq256 : goal.returns-then-best-eq256
 returns-then-best-eq256 c =
     most _ _ _ _ c.args.stream.now _ c.loop-at.at _ c.requires.name_value c.loop-at.invariant.2 c.if-best-eq256.true
 
-pub span_at-span-requires : goal.span_at-span-requires
-span_at-span-requires c = search best_laws
+pub span_at-start-requires : goal.span_at-start-requires
+span_at-start-requires c = search best_laws
 
 pub slice_bounds-is_end-count : goal.slice_bounds-is_end-count
 slice_bounds-is_end-count c = search best_laws

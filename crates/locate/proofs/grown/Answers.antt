@@ -1,8 +1,11 @@
-use Rattle.locate.proofs.Locating.{grown_laws}
+use Rattle.locate.proofs.Steps.{grown_laws}
 use Rattle.locate.proofs.grown.Goals as goal
 
-pub returns-then-until-eq0 : goal.returns-then-until-eq0
-returns-then-until-eq0 c = search grown_laws
+pub returns-then-not-taken : goal.returns-then-not-taken
+returns-then-not-taken c = search grown_laws
 
-pub returns : goal.returns
-returns c = search grown_laws
+pub returns-in-Some : goal.returns-in-Some
+returns-in-Some c = search grown_laws
+
+pub returns-in-None : goal.returns-in-None
+returns-in-None c = search grown_laws

@@ -1,98 +1,28 @@
-use Rattle.locate.proofs.Locating.{locate_laws}
+use mathlib.Core.Path.{ap, ◌∙◌}
+use Rattle.locate.specs.Locations.{judged_lo}
+use Rattle.locate.proofs.Locating.{breaks, prefix_there, location_goes, owned_goes, all_located, all_covered, locate_laws}
 use Rattle.locate.proofs.judge_and_locate.Goals as goal
 
-pub loop-at-init : goal.loop-at-init
-loop-at-init c = search locate_laws
+pub loop-stop-init : goal.loop-stop-init
+loop-stop-init c = search locate_laws
 
-pub next_stop-requires : goal.next_stop-requires
-next_stop-requires c = search locate_laws
-
-pub enum_told-1 : goal.enum_told-1
-enum_told-1 c = search locate_laws
-
-pub loop-at-smaller-in-Ended : goal.loop-at-smaller-in-Ended
-loop-at-smaller-in-Ended c = search locate_laws
-
-pub loop-at-preserved-in-Ended : goal.loop-at-preserved-in-Ended
-loop-at-preserved-in-Ended c = search locate_laws
-
-pub enum_known-step : goal.enum_known-step
-enum_known-step c = search locate_laws
-
-pub enum_told-in-Broken : goal.enum_told-in-Broken
-enum_told-in-Broken c = search locate_laws
-
-pub returns-in-Broken : goal.returns-in-Broken
-returns-in-Broken c = search locate_laws
-
-pub enum_known-step-in-At : goal.enum_known-step-in-At
-enum_known-step-in-At c = search locate_laws
-
-pub slice_bounds-better_in-count : goal.slice_bounds-better_in-count
-slice_bounds-better_in-count c = search locate_laws
-
-pub slice_bounds-better_in-start : goal.slice_bounds-better_in-start
-slice_bounds-better_in-start c = search locate_laws
-
-pub slice_bounds-better_in-end : goal.slice_bounds-better_in-end
-slice_bounds-better_in-end c = search locate_laws
+pub returns-in_err-lo-clause-result_value : goal.returns-in_err-lo-clause-result_value
+returns-in_err-lo-clause-result_value c =
+    ap judged_lo c.from_residual.ensures ∙ breaks _ _ _ _ _ _ _ c.loop-stop.invariant _ c.in-Some.ensures c.in_err-lo.was
 
 pub better_in-located-requires : goal.better_in-located-requires
-better_in-located-requires c = search locate_laws
+better_in-located-requires c = prefix_there _ _ _ _ _ _ _ c.loop-stop.invariant _ c.in-Some.ensures _ c.in_ok-lo.was _ c.in-Location.is
 
-pub loop-at-smaller-in-Location : goal.loop-at-smaller-in-Location
-loop-at-smaller-in-Location c = search locate_laws
+pub loop-stop-preserved-in-Location : goal.loop-stop-preserved-in-Location
+loop-stop-preserved-in-Location c =
+    location_goes _ _ _ _ _ _ _ c.loop-stop.invariant _ c.in-Some.ensures _ c.in_ok-lo.was _ c.in-Location.is _ c.better_in-located.ensures
 
-pub loop-at-preserved-in-Location : goal.loop-at-preserved-in-Location
-loop-at-preserved-in-Location c = search locate_laws
+pub loop-stop-preserved : goal.loop-stop-preserved
+loop-stop-preserved c =
+    owned_goes _ _ _ _ _ _ _ c.loop-stop.invariant _ c.in-Some.ensures _ c.in_ok-lo.was _ _ c.in-Owned.is _ _ c.grown-level.ensures c.grown-control.ensures
 
-pub enum_told-in-Both : goal.enum_told-in-Both
-enum_told-in-Both c = search locate_laws
+pub returns-clause-result_value : goal.returns-clause-result_value
+returns-clause-result_value c = all_located _ _ _ _ _ _ _ c.loop-stop.invariant c.in_default.ensures _ _
 
-pub grown-level-requires : goal.grown-level-requires
-grown-level-requires c = search locate_laws
-
-pub grown-control-requires : goal.grown-control-requires
-grown-control-requires c = search locate_laws
-
-pub loop-at-smaller-in-Both : goal.loop-at-smaller-in-Both
-loop-at-smaller-in-Both c = search locate_laws
-
-pub loop-at-preserved-in-Both : goal.loop-at-preserved-in-Both
-loop-at-preserved-in-Both c = search locate_laws
-
-pub enum_told-in-Candidate : goal.enum_told-in-Candidate
-enum_told-in-Candidate c = search locate_laws
-
-pub grown-level-requires-in-Candidate : goal.grown-level-requires-in-Candidate
-grown-level-requires-in-Candidate c = search locate_laws
-
-pub loop-at-smaller-in-Candidate : goal.loop-at-smaller-in-Candidate
-loop-at-smaller-in-Candidate c = search locate_laws
-
-pub loop-at-preserved-in-Candidate : goal.loop-at-preserved-in-Candidate
-loop-at-preserved-in-Candidate c = search locate_laws
-
-pub enum_told-in-Control : goal.enum_told-in-Control
-enum_told-in-Control c = search locate_laws
-
-pub grown-control-requires-in-Control : goal.grown-control-requires-in-Control
-grown-control-requires-in-Control c = search locate_laws
-
-pub loop-at-smaller-in-Control : goal.loop-at-smaller-in-Control
-loop-at-smaller-in-Control c = search locate_laws
-
-pub loop-at-preserved-in-Control : goal.loop-at-preserved-in-Control
-loop-at-preserved-in-Control c = search locate_laws
-
-pub enum_told-in-Other : goal.enum_told-in-Other
-enum_told-in-Other c = search locate_laws
-
-pub loop-at-smaller : goal.loop-at-smaller
-loop-at-smaller c = search locate_laws
-
-pub loop-at-preserved : goal.loop-at-preserved
-loop-at-preserved c = search locate_laws
-
-pub returns : goal.returns
-returns c = search locate_laws
+pub returns-clause-covered : goal.returns-clause-covered
+returns-clause-covered c = all_covered _ _ _ _ _ _ _ c.loop-stop.invariant c.in_default.ensures _ _ c.unwrap_or.ensures c.unwrap_or-2.ensures

@@ -5,8 +5,8 @@ use Rattle.rules.specs.Lists.{lower}
 use Rattle.locate.proofs.Locating.{Going}
 use Rattle.locate.proofs.judge_and_locate.Given as goal
 
-abbrev pub invariant-loop-at : goal.invariant-loop-at
-invariant-loop-at l = Going l.client (map lower l.name) l.stream l.located l.level l.control l.at
+abbrev pub invariant-loop-stop : goal.invariant-loop-stop
+invariant-loop-stop l = Going l.client (map lower l.name) l.stream l.located l.level l.control l.at
 
-abbrev pub decreases-loop-at : goal.decreases-loop-at
-decreases-loop-at l = length l.stream - l.at
+abbrev pub decreases-loop-stop : goal.decreases-loop-stop
+decreases-loop-stop l = length l.stream - l.at

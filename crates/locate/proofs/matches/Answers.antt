@@ -4,8 +4,5 @@ use Rattle.locate.proofs.matches.Goals as goal
 pub returns-then-client-ne4 : goal.returns-then-client-ne4
 returns-then-client-ne4 c = search matches_laws
 
-pub begins_with-requires : goal.begins_with-requires
-begins_with-requires c = search matches_laws
-
 pub returns : goal.returns
 returns c = search matches_laws

@@ -6,8 +6,8 @@ pub loop-at-init : goal.loop-at-init
 loop-at-init c =
     (c.requires.from_in_bounds, c.requires.stream_value, refl)
 
-pub span_at-span-requires : goal.span_at-span-requires
-span_at-span-requires c = search pick_laws
+pub span_at-start-requires : goal.span_at-start-requires
+span_at-start-requires c = search pick_laws
 
 pub slice_bounds-is_end-count : goal.slice_bounds-is_end-count
 slice_bounds-is_end-count c = search pick_laws
