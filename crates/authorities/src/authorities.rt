@@ -13,7 +13,7 @@ use soa::soa::{SoaNumbers, put_soa};
 use splits::splits::Fields;
 use values::values::{long_at, shared_of};
 
-// The numbers of fields 3 to 7, each with its default.
+// The numbers of fields 3 to 7, each with its default, as the rules' definition writes them.
 fn soa_numbers(fields: &Fields, default: u32) -> SoaNumbers
     ensures { result ≡ numbers_of default fields.now }
 {

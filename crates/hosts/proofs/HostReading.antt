@@ -1,5 +1,5 @@
 -- The laws of what is read of a line with a field x.
-use mathlib.Core.Path.{◌≡◌, ap, ◌∙◌, sym}
+use mathlib.Core.Path.{◌≡◌, sym}
 use mathlib.Core.Bool.{true, false, true≢false}
 use mathlib.Core.List.{List}
 use Prim.Native.Nat.{ℕ, ◌≤◌}
@@ -8,7 +8,7 @@ use lib.Dec.{T}
 use lib.ListN.{length}
 use Rattle.rules.specs.Lists.{has}
 use Rattle.rules.specs.Kinds.{common, meanings, field_count, field_at}
-use Rattle.rules.specs.Names.{name_of, wire_of}
+use Rattle.rules.specs.Names.{wire_of}
 use Rattle.rules.specs.Fields.{fault_of}
 use Rattle.rules.specs.Records.{ns, mx, srv, host_name, joined_names}
 use Rattle.rules.specs.Answers.{is_done}
@@ -16,7 +16,6 @@ use Rattle.rules.specs.declared.kinds.Kind.{Kind}
 use Rattle.rules.specs.declared.kinds.Meaning.{Meaning}
 use Rattle.rules.proofs.Lists.{all_head}
 use Rattle.rules.proofs.Fields.{host_label}
-use Rattle.names.specs.Views.{is_named}
 use Rattle.values.specs.Ready.{Ready}
 use Rattle.given.specs.Given.{HostGood}
 use Rattle.hosts.specs.HostLines.{middle_of, names_host}

@@ -9,8 +9,8 @@ ghost use Rattle.given.specs.Given.{HostGood};
 ghost use Rattle.addresses.specs.Address.{address_bytes};
 ghost use Rattle.values.specs.Ready.{Ready};
 
-use addresses::addresses::address;
 use addresses::address::Address;
+use addresses::addresses::address;
 use given::given::read_host;
 use names::names::{Name, read_name};
 use rules::kinds::Kind;

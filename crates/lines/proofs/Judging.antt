@@ -61,6 +61,9 @@ pub ruleset fields_laws = (rules, begin_fields, all_good, next_field, first_faul
 
 -- ---- a kind
 
+pub second_short : (s : List ℕ) (n : ℕ) (fields : List (List ℕ)) → Some fields ≡ if_few n (split_on 58 s) → length s ≤ 1024 → length (field_at fields 2) ≤ 1024
+second_short s n fields e h = rw (← (are_few n (split_on 58 s) fields e).1) (field_short s 2 1024 h)
+
 module _ (s : List ℕ) (kind : Kind) (row : Row) (e : IsRow kind row) where
   pub row_most : length row.meanings.now ≤ 11
   unfolding field_count

@@ -13,6 +13,7 @@ use rules::kinds::{Kind, Meaning};
 use splits::splits::{Fields, split};
 
 // A fault, or none, that is of no field.
+#[tactic(auto, unfolding(rules::specs::Answers::whole_line))]
 fn whole_line(fault: Fault) -> LineFault
     ensures { result ≡ whole_line fault }
 {

@@ -32,6 +32,7 @@ fn put_mx(out: &mut [u8], owner: &[u8], shared: Shared, dist: u16, host: &[u8]) 
 }
 
 // The mail exchanger and its address.
+// Zones, mail and services each have such a function: one over a closure would need a longer contract than its body.
 fn put_exchanger(out: &mut [u8], line: &HostLine, dist: u16) -> usize
     requires { length (bytes_of (host_records line.now 15 (be 2 dist))) ≤ length out.old }
     ensures { IsPut (bytes_of (host_records line.now 15 (be 2 dist))) out.old out.new result }

@@ -24,6 +24,7 @@ fn put_target(out: &mut [u8], fields: &Fields, kind: Kind, rtype: u16) -> usize
     put_resource(out, owner.as_slice(), rtype, shared, target.as_slice())
 }
 
+// Two functions with a contract each: which type belongs to which kind is what they promise.
 pub fn put_pointer_line(out: &mut [u8], fields: &Fields) -> usize
     requires { Ready Kind.Pointer fields.now × (length (bytes_of (records_of 0 Kind.Pointer fields.now)) ≤ length out.old) }
     ensures { IsPut (bytes_of (records_of 0 Kind.Pointer fields.now)) out.old out.new result }

@@ -18,6 +18,7 @@ use values::values::short_at;
 const SRV: [u8; 3] = *b"srv";
 
 // The service's host and its address.
+// Zones, mail and services each have such a function: one over a closure would need a longer contract than its body.
 fn put_service(
     out: &mut [u8],
     line: &HostLine,

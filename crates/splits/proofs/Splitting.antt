@@ -9,7 +9,7 @@ use borrow.Author.Tests.{eq-eqb, ne_eqb, le-leb, lt-leb, leb-true, leb-false}
 use lib.Dec.{leb, eqb}
 use lib.ListN.{length, get_or, take, drop, set, replicate, length-append, length-map, length-set, length-drop, drop_of_length-le, get_or-map}
 use lib.Seq.{drop-drop, drop-set-lt, take-suc, get_or-drop, append_snoc, length-take-le}
-use Rattle.std.specs.Prelude.{Option, Some, None}
+use Rattle.std.specs.Prelude.{Some, None}
 use Rattle.rules.specs.Lists.{pick, onto_first, split_on}
 use Rattle.rules.specs.Kinds.{field_count, field_at}
 use Rattle.rules.proofs.Lists.{All, nil, cons, split_short, all_fields}

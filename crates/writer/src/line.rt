@@ -21,6 +21,7 @@ use splits::splits::{Fields, split};
 use texts::texts::{put_generic_line, put_text_line};
 use zones::zones::{put_delegation_line, put_zone_line};
 
+// A match, since each kind's function asks and promises something of its own.
 fn put_kind(out: &mut [u8], fields: &Fields, kind: Kind, serial: u32) -> usize
     requires { Ready kind fields.now × (length (bytes_of (records_of serial kind fields.now)) ≤ length out.old) }
     ensures { IsPut (bytes_of (records_of serial kind fields.now)) out.old out.new result }

@@ -20,6 +20,7 @@ use splits::splits::Fields;
 const NS: [u8; 2] = *b"ns";
 
 // The name server and its address.
+// Zones, mail and services each have such a function: one over a closure would need a longer contract than its body.
 fn put_server(out: &mut [u8], line: &HostLine) -> usize
     requires { length (bytes_of (host_records line.now 2 [])) ≤ length out.old }
     ensures { IsPut (bytes_of (host_records line.now 2 [])) out.old out.new result }
@@ -40,7 +41,7 @@ fn soa_shared(shared: Shared) -> Shared
     }
 }
 
-// The SOA of a zone line.
+// The SOA of a zone line, with the numbers as the rules' definition of its records writes them.
 fn put_authority(out: &mut [u8], line: &HostLine, serial: u32) -> usize
     requires { (length (contact_of line.now.owner) ≤ 255) × (length (bytes_of (zone_records serial line.now)) ≤ length out.old) }
     ensures { IsPut (encode (soa_record serial line.now)) out.old out.new result }
