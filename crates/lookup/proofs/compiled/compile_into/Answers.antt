@@ -1,5 +1,5 @@
 use Rattle.refusals.proofs.Numbers.{done, not_done}
-use Rattle.lookup.proofs.Records.{refused, compiled, records_laws}
+use Rattle.lookup.proofs.Records.{records_laws}
 use Rattle.lookup.proofs.compiled.compile_into.Goals as goal
 
 pub returns-in-Done : goal.returns-in-Done
