@@ -1,9 +1,9 @@
 -- The laws of an address, from what its numbers or its groups tell.
-use Rattle.std.proofs.Common.{◌≡◌, refl, ap, ◌∙◌, sym, ℕ, suc, ◌<◌, ◌≤◌, List, [], ◌∷◌, ◌++◌, length, map, get_or, Option, Some, None, option_map, Bool, true, false, ◌&&◌, arith, rules, leb, eqb}
+use Rattle.std.proofs.Common.{◌≡◌, refl, ap, ◌∙◌, sym, ℕ, suc, ◌<◌, List, [], ◌∷◌, length, map, get_or, Some, None, Bool, true, false, ◌&&◌, arith, leb, eqb}
 use Rattle.std.proofs.lemmas.Option.{none-some}
 use borrow.Author.Tests.{le-leb, eqb-true, eq-eqb, ne_eqb}
 use Rattle.rules.specs.Lists.{pick, has, all, split_on, join_all}
-use Rattle.rules.specs.Fields.{decimal_from, octet, octet_byte, address_if, address_of}
+use Rattle.rules.specs.Fields.{octet, octet_byte, address_if, address_of}
 use Rattle.octets.specs.Octets.{octets_of}
 use Rattle.groups.specs.Groups.{groups_of}
 use Rattle.addresses.specs.Addresses.{dotted_address, grouped_address}

@@ -2,105 +2,90 @@
 use mathlib.Core.Path.{◌≡◌, refl, ap, ◌∙◌, sym}
 use mathlib.Core.Bool.{Bool, true, false, ◌&&◌}
 use mathlib.Core.List.{List, [], ◌∷◌, ◌++◌, map}
-use Prim.Native.Nat.{ℕ, suc, ◌+◌, ◌-◌, ◌<◌, ◌≤◌}
+use Prim.Native.Nat.{ℕ, suc, ◌+◌, ◌*◌, ◌≤◌}
 use native.Mathlib.Numerals.{add-one}
 use native.Mathlib.Omega.{arith}
 use borrow.Author.Rules.{rules}
-use lib.ListN.{length, take, drop, drop_of_length-le}
+use lib.ListN.{length}
 use Rattle.rules.specs.Lists.{pick, all, join_all}
 use Rattle.rules.specs.Kinds.{lines_of}
 use Rattle.rules.specs.Bytes.{size_of_all, bytes_of}
-use Rattle.rules.specs.Answers.{fault_number, is_done, is_good, line_fault, line_records, source_records, answer, judge_lines}
+use Rattle.rules.specs.Answers.{is_done, is_good, line_fault, line_records, source_records, answer, judge_lines}
 use Rattle.rules.specs.declared.faults.Fault.{Fault}
 use Rattle.rules.specs.declared.faults.LineFault.{LineFault}
 use Rattle.rules.proofs.Meaning.{length_bytes, sizes_add}
 use Rattle.rules.proofs.Sizes.{line_short}
-use Rattle.refusals.proofs.Numbers.{zero_done, other_refused}
+use Rattle.refusals.proofs.Numbers.{done, not_done}
 use Rattle.buffer.specs.Put.{IsPut}
-use Rattle.wire.proofs.Parts.{lent_at, tail_lent}
-use Rattle.compiler.specs.FirstLine.{first_line}
-use Rattle.compiler.specs.Judged.{judged_from}
-use Rattle.compiler.specs.Sized.{IsSized}
-use Rattle.compiler.specs.declared.judge.LineSize.{LineSize}
-use Rattle.compiler.proofs.Lines.{line_is, lines_at, end_within}
+use Rattle.compiler.specs.Judged.{judged_from, IsSum, IsRefusal}
+use Rattle.compiler.specs.Sized.{IsSize, IsFault}
+use Rattle.compiler.proofs.Lines.{lines_few}
 
 -- ---- one line
 
-module _ (line : List ℕ) (first : LineFault) (k : ℕ) (e : first ≡ line_fault line) (d : k ≡ fault_number first.fault) where
+module _ (line : List ℕ) (first : LineFault) (e : first ≡ line_fault line) where
   good_is : is_done first.fault ≡ is_good line
   unfolding is_good
   good_is = rw e
 
-  pub line_good : k ≡ 0 → is_good line ≡ true
-  line_good t = sym good_is ∙ zero_done first.fault k d t
+  pub line_good : first.fault ≡ Fault.Done → is_good line ≡ true
+  line_good d = sym good_is ∙ done first.fault d
 
-  pub line_room : (serial : ℕ) (scratch : List ℕ) → k ≡ 0 → length scratch ≡ 16384 → length (bytes_of (line_records serial line)) ≤ length scratch
-  line_room serial scratch t l = omega (arith, line_short serial line (line_good t))
+  pub line_room : (serial : ℕ) (scratch : List ℕ) → first.fault ≡ Fault.Done → length scratch ≡ 16384 → length (bytes_of (line_records serial line)) ≤ length scratch
+  line_room serial scratch d l = omega (arith, line_short serial line (line_good d))
 
-  pub sized : (serial : ℕ) (before after : List ℕ) (r : ℕ) → k ≡ 0 → IsPut (bytes_of (line_records serial line)) before after r
-      → IsSized serial line (record { fault = first.fault; field = first.field; size = r })
-  sized serial before after r t p = record {
-    fault = rw e;
-    field = rw e;
-    size = λ g. p.count ∙ length_bytes (line_records serial line);
-    most = omega (arith, p.count, line_short serial line (line_good t));
+  pub sized : (serial : ℕ) (before after : List ℕ) (r : ℕ) → first.fault ≡ Fault.Done → IsPut (bytes_of (line_records serial line)) before after r → IsSize serial line r
+  sized serial before after r d p = record {
+    good = line_good d;
+    count = p.count ∙ length_bytes (line_records serial line);
+    most = omega (arith, p.count, line_short serial line (line_good d));
   }
 
-  pub unsized : (serial : ℕ) → (k ≡ 0 → ⊥) → IsSized serial line (record { fault = first.fault; field = first.field; size = 0 })
-  unsized serial t = record { fault = rw e; field = rw e; size = λ g. absurd (no (sym (other_refused first.fault k d t) ∙ good_is ∙ g)); most = omega arith }
-    where
-      no : false ≡ true → ⊥
-      no q = let z : ◌≡◌ {A = ℕ} 0 1 = cc in omega arith
+  pub faulty : (first.fault ≡ Fault.Done → ⊥) → IsFault line first
+  faulty d = record { bad = sym good_is ∙ not_done first.fault d; says = e }
 
-pub ruleset size_laws = (rules, line_good, line_room, sized, unsized)
+pub ruleset size_laws = (rules, line_good, line_room, sized, faulty)
 
 -- ---- all lines
 
--- judging from a place on answers what judging all does
-unfoldable pub Judging : ℕ → List ℕ → ℕ → ℕ → ℕ → Type 0
-Judging serial s number total at = judged_from serial number total (lines_of (drop at s)) ≡ judged_from serial 1 0 (lines_of s)
+-- judging what is left, behind i lines and so many bytes, answers what judging all does
+pub record Judging (serial : ℕ) (s : List ℕ) (left : List (List ℕ)) (i total : ℕ) : Type 0 where
+  pub says : judged_from serial (suc i) total left ≡ judged_from serial 1 0 (lines_of s)
+  pub few : i + length left ≤ length s
+  pub small : total ≤ 16384 * i
 
-pub begin_judging : (serial : ℕ) (s : List ℕ) → Judging serial s 1 0 0
-unfolding Judging
-begin_judging serial s = refl
+pub begin_judging : (serial : ℕ) (s : List ℕ) (left : List (List ℕ)) → left ≡ lines_of s → Judging serial s left 0 0
+begin_judging serial s left e = record { says = rw e; few = rw e (omega (arith, lines_few s)); small = omega arith }
 
-module _ (serial : ℕ) (s : List ℕ) (number total at : ℕ) (g : Judging serial s number total at) where
-  pub all_judged : length s ≤ at → record { fault = Fault.Done; line = 0; field = 0; bytes = total } ≡ judged_from serial 1 0 (lines_of s)
-  unfolding Judging judged_from lines_of answer
-  all_judged h = rw (drop_of_length-le s h) at g
+module _ (serial : ℕ) (s : List ℕ) (left : List (List ℕ)) (i total : ℕ) (g : Judging serial s left i total) where
+  pub all_judged : left ≡ [] → IsSum serial (lines_of s) total
+  unfolding judged_from
+  all_judged z = record { says = sym g.says ∙ rw z }
 
-  module _ (h : at < length s) (n : ℕ) (e : n ≡ length (first_line (lent_at at s))) where
-    length_is : n ≡ length (first_line (drop at s))
-    length_is = e ∙ rw (tail_lent s at)
+  module _ (line : List ℕ) (rest : List (List ℕ)) (q : left ≡ line ∷ rest) where
+    step : judged_from serial 1 0 (lines_of s)
+        ≡ pick (is_good line) (judged_from serial (suc (suc i)) (total + size_of_all (line_records serial line)) rest) (answer (line_fault line).fault (suc i) (line_fault line).field 0)
+    unfolding judged_from
+    step = sym g.says ∙ rw q
 
-    pub line_end : at + n ≤ length s
-    line_end = end_within s at n h length_is
+    pub room_left : i + 1 ≤ length s
+    room_left = omega (arith, g.few, ap length q)
 
-    module _ (r : LineSize) (p : IsSized serial (take (at + n - at) (drop at s)) r) (k : ℕ) (d : k ≡ fault_number r.fault) where
-      sized_first : IsSized serial (first_line (drop at s)) r
-      sized_first = rw (line_is s at n h length_is) at p
+    pub next_line : (size : ℕ) → IsSize serial line size → Judging serial s rest (i + 1) (total + size)
+    next_line size p = record {
+      says = rw (add-one, p.count) (sym (step ∙ (unfold pick in rw p.good)));
+      few = omega (arith, g.few, ap length q);
+      small = omega (arith, g.small, p.most);
+    }
 
-      good_first : is_good (first_line (drop at s)) ≡ is_done r.fault
-      unfolding is_good
-      good_first = rw sized_first.fault
+    pub bad_line : (at : ℕ) → at ≡ i → (first : LineFault) → IsFault line first → IsRefusal serial (lines_of s) (record { fault = first.fault; line = at + 1; field = first.field; bytes = 0 })
+    unfolding answer
+    bad_line at e first p = record {
+      says = rw (e, add-one, p.says) (step ∙ (unfold pick in rw p.bad));
+      refused = good_is line first p.says ∙ p.bad;
+    }
 
-      step : judged_from serial 1 0 (lines_of s)
-          ≡ pick (is_done r.fault) (judged_from serial (suc number) (total + size_of_all (line_records serial (first_line (drop at s)))) (lines_of (drop (at + n + 1) s)))
-          (answer r.fault number r.field 0)
-      unfolding Judging judged_from
-      step = sym g ∙ rw (lines_at s at n h length_is, good_first, sized_first.fault, sized_first.field)
-
-      pub bad_line : (k ≡ 0 → ⊥) → record { fault = r.fault; line = number; field = r.field; bytes = 0 } ≡ judged_from serial 1 0 (lines_of s)
-      unfolding pick answer
-      bad_line t = sym (step ∙ rw (other_refused r.fault k d t))
-
-      pub next_line : k ≡ 0 → Judging serial s (number + 1) (total + r.size) (at + n + 1)
-      unfolding Judging pick
-      next_line t =
-          let q : is_good (first_line (drop at s)) ≡ true = good_first ∙ zero_done r.fault k d t in
-          rw (add-one number, sized_first.size q) (sym (step ∙ rw (zero_done r.fault k d t)))
-
-pub ruleset judge_laws = (rules, begin_judging, all_judged, line_end, bad_line)
+pub ruleset judge_laws = (rules, begin_judging, all_judged, room_left, next_line, bad_line)
 
 -- ---- what judging answers
 

@@ -1,94 +1,69 @@
 -- The laws of a source's lines, one after the other.
-use mathlib.Core.Path.{◌≡◌, refl, ap, ◌∙◌}
+use mathlib.Core.Path.{◌≡◌, refl, ap, ◌∙◌, sym}
 use mathlib.Core.Bool.{Bool, true, false}
 use mathlib.Core.List.{List, [], ◌∷◌}
-use Prim.Native.Nat.{ℕ, suc, ◌+◌, ◌-◌, ◌<◌, ◌≤◌}
+use mathlib.Core.Logic.{⊎_elim}
+use Prim.Native.Nat.{ℕ, zero, suc, ◌+◌, ◌<◌, ◌≤◌}
+use native.Mathlib.Numerals.{add-one}
 use native.Mathlib.Omega.{arith}
-use borrow.Author.Rules.{rules}
-use borrow.Author.Tests.{eq-eqb, ne_eqb}
+use borrow.Author.Tests.{eqb-true}
 use lib.Dec.{eqb}
-use lib.ListN.{length, get_or, take, drop, length-drop, drop_of_length-le}
-use lib.Seq.{drop-drop}
+use lib.ListN.{length, take, drop, drop_of_length-le}
+use Rattle.std.proofs.Common.{Option, Some, None, Bor}
+use Rattle.std.specs.Option.{unwrap_or}
+use Rattle.std.proofs.lemmas.List.{take_rest}
+use Rattle.std.specs.Slice.{IsGetRangeResult}
 use Rattle.rules.specs.Lists.{pick, onto_first}
 use Rattle.rules.specs.Kinds.{lines_of}
-use Rattle.wire.proofs.Steps.{left_at}
-use Rattle.compiler.specs.FirstLine.{first_line}
+use Rattle.pieces.specs.Pieces.{first_at, IsEnd}
 
-pub first_short : (xs : List ℕ) → length (first_line xs) ≤ length xs
-unfolding first_line
-first_short [] = omega arith
-first_short (b ∷ bs) = by (eqb b 10) (first_short bs)
-  where
-    by : (t : Bool) → length (first_line bs) ≤ length bs → length (pick t [] (b ∷ first_line bs)) ≤ suc (length bs)
-    by true h = unfold pick in omega arith
-    by false h = unfold pick in omega arith
-
--- ---- the loop that looks for the end
-
-abbrev pub Going : List ℕ → ℕ → Type 0
-Going s i = i + length (first_line (drop i s)) ≡ length (first_line s)
-
-pub begin : (s : List ℕ) → Going s 0
-begin s = omega arith
-
-module _ (s : List ℕ) (i : ℕ) (e : Going s i) where
-  pub stop : i < length s → get_or s i 0 ≡ 10 → i ≡ length (first_line s)
-  unfolding first_line pick
-  stop h b =
-      let z : length (first_line (drop i s)) ≡ 0 = rw (left_at s i h, eq-eqb _ _ b) in
-      omega arith
-
-  pub further : i < length s → (get_or s i 0 ≡ 10 → ⊥) → Going s (i + 1)
-  unfolding first_line pick
-  further h b =
-      let z : length (first_line (drop i s)) ≡ suc (length (first_line (drop (i + 1) s))) = rw (left_at s i h, ne_eqb _ _ b) in
-      omega arith
-
-  pub at_end : length s ≤ i → i ≡ length (first_line s)
-  unfolding first_line
-  at_end h =
-      let z : length (first_line (drop i s)) ≡ 0 = rw (drop_of_length-le s h) in
-      omega arith
-
-pub ruleset end_laws = (rules, begin, stop, further, at_end)
-
--- ---- the lines
-
-pub lines_more : (xs : List ℕ) → 0 < length xs → lines_of xs ≡ first_line xs ∷ lines_of (drop (suc (length (first_line xs))) xs)
-unfolding lines_of first_line onto_first
+pub lines_more : (xs : List ℕ) → 0 < length xs → lines_of xs ≡ take (first_at 10 xs) xs ∷ lines_of (drop (suc (first_at 10 xs)) xs)
+unfolding lines_of first_at onto_first
 lines_more [] h = absurd (omega arith)
 lines_more (b ∷ []) h = by (eqb b 10)
   where
-    by : (t : Bool) → pick t ([] ∷ []) ((b ∷ []) ∷ []) ≡ pick t [] (b ∷ []) ∷ lines_of (drop (suc (length (pick t [] (b ∷ [])))) (b ∷ []))
+    by : (t : Bool) → pick t ([] ∷ []) ((b ∷ []) ∷ []) ≡ take (pick t 0 1) (b ∷ []) ∷ lines_of (drop (suc (pick t 0 1)) (b ∷ []))
     by true = unfold pick in refl
     by false = unfold pick in refl
 lines_more (b ∷ (c ∷ xs)) h = by (eqb b 10) (lines_more (c ∷ xs) (omega arith))
   where
-    by : (t : Bool) → lines_of (c ∷ xs) ≡ first_line (c ∷ xs) ∷ lines_of (drop (suc (length (first_line (c ∷ xs)))) (c ∷ xs))
-        → pick t ([] ∷ lines_of (c ∷ xs)) (onto_first b (lines_of (c ∷ xs))) ≡ pick t [] (b ∷ first_line (c ∷ xs)) ∷ lines_of (drop (suc (length (pick t [] (b ∷ first_line (c ∷ xs))))) (b ∷ (c ∷ xs)))
+    by : (t : Bool) → lines_of (c ∷ xs) ≡ take (first_at 10 (c ∷ xs)) (c ∷ xs) ∷ lines_of (drop (suc (first_at 10 (c ∷ xs))) (c ∷ xs))
+        → pick t ([] ∷ lines_of (c ∷ xs)) (onto_first b (lines_of (c ∷ xs)))
+        ≡ take (pick t 0 (suc (first_at 10 (c ∷ xs)))) (b ∷ (c ∷ xs)) ∷ lines_of (drop (suc (pick t 0 (suc (first_at 10 (c ∷ xs))))) (b ∷ (c ∷ xs)))
     by true e = unfold pick in refl
     by false e = unfold pick in ap (onto_first b) e
 
-pub take_first : (xs : List ℕ) → take (length (first_line xs)) xs ≡ first_line xs
-unfolding first_line
-take_first [] = refl
-take_first (b ∷ bs) = by (eqb b 10) (take_first bs)
+-- a line, and the lines behind its end, if there is anything behind it
+pub line_step : (s : List ℕ) (end : ℕ) (r : Option (Bor (List ℕ))) (d x : Bor (List ℕ)) → x ≡ unwrap_or r d → d.now ≡ [] → 0 < length s → IsEnd 10 s 0 end
+    → IsGetRangeResult s (end + 1) (length s) r → lines_of s ≡ take end s ∷ lines_of x.now
+line_step s end None d x u n h p g =
+    let q : end ≡ first_at 10 s = omega (arith, p.says) in
+    let z : drop (suc end) s ≡ [] = drop_of_length-le s {i = suc end} (⊎_elim (λ l. omega arith) (λ l. omega arith) g.0) in
+    lines_more s h ∙ rw (← q, z, u, n)
+line_step s end (Some y) d x u n h p g =
+    let q : end ≡ first_at 10 s = omega (arith, p.says) in
+    let z : y.now ≡ drop (suc end) s = g.0.2 ∙ take_rest s (end + 1) ∙ rw add-one in
+    lines_more s h ∙ rw (← q, u, z)
+
+-- the test whether there is anything
+pub some : (n : ℕ) (b : Bool) → b ≡ eqb n 0 → b ≡ false → 0 < n
+some zero b e q = absurd (let z : true ≡ false = sym e ∙ q in let y : ◌≡◌ {A = ℕ} 0 1 = cc in omega arith)
+some (suc n) b e q = omega arith
+
+pub none : (n : ℕ) (b : Bool) → b ≡ eqb n 0 → b ≡ true → n ≡ 0
+none n b e q = eqb-true n 0 (sym e ∙ q)
+
+pub lines_none : (s : List ℕ) → length s ≡ 0 → lines_of s ≡ []
+unfolding lines_of
+lines_none [] h = refl
+lines_none (b ∷ s) h = absurd (omega arith)
+
+pub lines_few : (s : List ℕ) → length (lines_of s) ≤ length s
+unfolding lines_of onto_first pick
+lines_few [] = omega arith
+lines_few (b ∷ s) = by (eqb b 10) (lines_of s) (lines_few s)
   where
-    by : (t : Bool) → take (length (first_line bs)) bs ≡ first_line bs → take (length (pick t [] (b ∷ first_line bs))) (b ∷ bs) ≡ pick t [] (b ∷ first_line bs)
-    by true e = unfold pick in refl
-    by false e = unfold pick in ap (λ (l : List ℕ). b ∷ l) e
-
--- the line at a place within the source, and the lines behind it
-module _ (s : List ℕ) (at n : ℕ) (h : at < length s) (e : n ≡ length (first_line (drop at s))) where
-  pub line_is : take (at + n - at) (drop at s) ≡ first_line (drop at s)
-  line_is =
-      let q : at + n - at ≡ length (first_line (drop at s)) = omega arith in
-      rw q (take_first (drop at s))
-
-  pub lines_at : lines_of (drop at s) ≡ first_line (drop at s) ∷ lines_of (drop (at + n + 1) s)
-  lines_at =
-      let q : at + n + 1 ≡ at + suc (length (first_line (drop at s))) = omega arith in
-      lines_more (drop at s) (omega (arith, length-drop at s)) ∙ rw (q, ← (drop-drop (suc (length (first_line (drop at s)))) at s))
-
-  pub end_within : at + n ≤ length s
-  end_within = omega (arith, first_short (drop at s), length-drop at s)
+    by : (t : Bool) (ls : List (List ℕ)) → length ls ≤ length s → length (pick t ([] ∷ ls) (onto_first b ls)) ≤ suc (length s)
+    by true ls h = omega arith
+    by false [] h = omega arith
+    by false (l ∷ ls) h = omega arith

@@ -1,4 +1,3 @@
 pub mod Compiled
-pub mod FirstLine
 pub mod Judged
 pub mod Sized

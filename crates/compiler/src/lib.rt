@@ -3,6 +3,6 @@
 #![tactic(auto)]
 
 pub mod compile;
-mod ends;
 mod judge;
+mod source;
 mod write;

@@ -12,8 +12,8 @@ fn refuse_argument(i: usize, room: usize) {
     let _ = writeln!(err, "argument {i} is missing, or longer than {room} bytes");
 }
 
-// Argument i, in the buffer that is lent: how many bytes it has. Where it is missing or too long, standard error
-// has the reason. The library's iterator of arguments ends at the first that is not text, and a path need not be.
+// Argument i, in the buffer that is lent: how many bytes it has. Where it is missing or too long, standard error has the reason.
+// The library's iterator of arguments ends at the first that is not text, and a path need not be.
 pub fn argument<R: Env>(rt: &R, i: usize, buf: &mut [u8]) -> Option<usize>
     ensures { IsFront buf.new result }
 {
@@ -28,10 +28,7 @@ pub fn argument<R: Env>(rt: &R, i: usize, buf: &mut [u8]) -> Option<usize>
 
 // Whether there is an argument i. No room is lent for it, so one that is too long for none is there all the same.
 fn is_there<R: Env>(rt: &R, i: usize) -> bool {
-    match rt.arg(i, &mut [0u8; 0]) {
-        Err(FillError::NotPresent) => false,
-        _ => true,
-    }
+    !matches!(rt.arg(i, &mut [0u8; 0]), Err(FillError::NotPresent))
 }
 
 // How many arguments the program was started with, its own name among them.

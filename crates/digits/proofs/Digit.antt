@@ -48,6 +48,7 @@ module _ (b : ℕ) where
   above l m = rw (le-leb 48 b (omega arith), lt-leb b 57 (omega arith), le-leb 97 b l, lt-leb b 102 m) refl
 
 pub ruleset decimal_laws = (decimal, below_decimal, above_decimal, rules)
+
 pub ruleset hex_laws = (figure, below_figures, between, lettered, above, rules)
 
 -- a turn of the loop that reads digits

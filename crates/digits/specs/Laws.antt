@@ -1,5 +1,5 @@
 -- The laws of digits: each is worth less than sixteen.
-use Rattle.std.proofs.Common.{◌≡◌, refl, sym, ℕ, ◌-◌, ◌+◌, ◌<◌, ◌≤◌, Option, Some, None, Bool, true, false, true≢false, ◌&&◌, ◌||◌, arith, leb}
+use Rattle.std.proofs.Common.{◌≡◌, refl, sym, ℕ, ◌-◌, ◌<◌, ◌≤◌, Some, None, Bool, true, false, true≢false, ◌&&◌, ◌||◌, arith, leb}
 use Rattle.std.proofs.lemmas.Option.{none-some}
 use borrow.Author.Tests.{le-leb, lt-leb, leb-true}
 use Rattle.rules.specs.Lists.{pick, lower}

@@ -33,6 +33,7 @@ text_is b (c ∷ d ∷ e ∷ t) = by (eqb b 92) (leb 48 c && leb c 51 && octal d
   where
     x : ℕ
     x = (c - 48) * 64 + (d - 48) * 8 + (e - 48)
+
     by : (u v : Bool) → pick u (pick v (onto_text x (text_of t)) None) (onto_text b (text_of (c ∷ d ∷ e ∷ t)))
         ≡ from_front (pick u (option_map (λ y. (y, t)) (pick v (Some x) None)) (Some (b, c ∷ d ∷ e ∷ t)))
     by true true = refl

@@ -1,5 +1,5 @@
 -- The laws of a text judged: how a turn of the loop counts one byte, and how each way out ends it.
-use Rattle.std.proofs.Common.{◌≡◌, refl, ap, ◌∙◌, sym, ℕ, ◌+◌, ◌<◌, ◌≤◌, List, length, Option, Some, None, option_map, arith}
+use Rattle.std.proofs.Common.{◌≡◌, refl, ap, ◌∙◌, sym, ℕ, ◌+◌, ◌≤◌, List, length, Option, Some, None, option_map, arith}
 use native.Mathlib.Nat.{add-zero, zero-add}
 use Rattle.rules.specs.Fields.{onto_text, text_of}
 use Rattle.escapes.specs.TextSteps.{front_of}

@@ -1,5 +1,5 @@
 -- The laws of a text put into a buffer: how a turn of the loop puts one byte, and that the text's bytes stand there at its end.
-use Rattle.std.proofs.Common.{◌≡◌, refl, ap, ◌∙◌, sym, ℕ, ◌+◌, ◌<◌, ◌≤◌, List, [], ◌∷◌, ◌++◌, length, take, drop, set, Option, Some, None, Bool, true, false, true≢false, append-nil, length-append, length-set, arith, rules}
+use Rattle.std.proofs.Common.{◌≡◌, refl, ap, ◌∙◌, sym, ℕ, ◌+◌, ◌<◌, ◌≤◌, List, [], ◌∷◌, ◌++◌, length, take, drop, set, Option, Some, None, true, true≢false, append-nil, length-append, length-set, arith}
 use Rattle.std.proofs.lemmas.Option.{none-some}
 use lib.Seq.{append_snoc, length-take-le}
 use Rattle.rules.specs.Lists.{value_or, is_some}

@@ -7,7 +7,7 @@ use std::io::Error;
 use std::str::Utf8Error;
 
 // Why a file isn't read whole.
-#[derive(Drop)]
+#[derive(Debug, Drop)]
 pub enum Unread {
     // a path that isn't text, which the library can't open
     NotText,
@@ -37,6 +37,8 @@ impl fmt::Display for Unread {
         }
     }
 }
+
+impl std::error::Error for Unread {}
 
 // Standard error for the words of a reason, up to the number of the system's error.
 #[derive(Clone, Copy)]

@@ -1,12 +1,11 @@
 -- The laws of one group of an IPv6 address: 1 to 4 hexadecimal digits, either case.
-use Rattle.std.proofs.Common.{◌≡◌, refl, ap, ◌∙◌, sym, ℕ, ◌+◌, ◌-◌, ◌<◌, ◌≤◌, List, [], ◌∷◌, ◌++◌, length, map, take, Option, Some, None, option_map, Bool, true, false, ◌&&◌, arith, rules, leb, eqb, Fits, w16}
-use Rattle.std.proofs.lemmas.Option.{none-some}
+use Rattle.std.proofs.Common.{◌≡◌, refl, ap, ◌∙◌, sym, ℕ, ◌+◌, ◌-◌, ◌<◌, ◌≤◌, List, length, take, Some, None, option_map, Bool, true, false, ◌&&◌, arith, leb, eqb, Fits, w16}
 use borrow.Author.Tests.{le-leb, lt-leb, leb-true, eqb-true, eq-eqb, ne_eqb}
 use lib.Seq.{take_all}
 use lib.Dec.{lit<}
 use Rattle.std.proofs.Math.Nat.{pow-le-pow_right}
 use Rattle.std.proofs.lemmas.List.{length-take-le}
-use Rattle.rules.specs.Lists.{pick, all, lower, split_on, be, join_all}
+use Rattle.rules.specs.Lists.{pick, all, lower, split_on, be}
 use Rattle.rules.specs.Fields.{digit, lower_hex_digit, hex_value, hex_from, group, group_bytes}
 use Rattle.digits.specs.Digits.{hex_of, value_from}
 use Rattle.digits.proofs.Digit.{number_says, value_below}

@@ -1,5 +1,5 @@
 -- The law of digits in either case.
-use Rattle.std.specs.Prelude.{ℕ, ◌<◌, ◌≡◌, Option, Some}
+use Rattle.std.specs.Prelude.{ℕ, ◌<◌, ◌≡◌, Some}
 use Rattle.rules.specs.Lists.{lower}
 use Rattle.digits.specs.Laws.{hex_below}
 use Rattle.groups.specs.Groups.{any_hex_of}

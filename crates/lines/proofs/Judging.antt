@@ -15,12 +15,12 @@ use Rattle.rules.specs.Lists.{pick, split_on}
 use Rattle.rules.specs.Kinds.{ignored, kind_of, meanings, field_count, field_at}
 use Rattle.rules.specs.Fields.{fault_of}
 use Rattle.rules.specs.Records.{joined_names}
-use Rattle.rules.specs.Answers.{fault_number, is_done, no_fault, then_fault, fields_fault, joined_fault, whole_line, kind_fault, stripped_fault, longest_line, line_fault}
+use Rattle.rules.specs.Answers.{is_done, no_fault, then_fault, fields_fault, joined_fault, whole_line, kind_fault, stripped_fault, longest_line, line_fault}
 use Rattle.rules.specs.declared.faults.Fault.{Fault}
-use Rattle.rules.specs.declared.faults.FieldKind.{FieldKind}
 use Rattle.rules.specs.declared.faults.LineFault.{LineFault}
 use Rattle.rules.specs.declared.kinds.Kind.{Kind}
 use Rattle.rules.specs.declared.kinds.Meaning.{Meaning}
+use Rattle.refusals.proofs.Numbers.{not_done}
 use Rattle.rows.specs.Rows.{IsRow}
 use Rattle.rows.specs.declared.rows.Row.{Row}
 use Rattle.rows.proofs.Table.{count_most}
@@ -56,24 +56,6 @@ module _ (ms : List Meaning) (fields : List (List ℕ)) (i : ℕ) (g : Going ms 
     pub first_fault : is_done f ≡ false → record { fault = f; field = i + 1 } ≡ fields_fault 0 ms fields
     unfolding pick
     first_fault t = rw (add-one i) (sym (step ∙ rw t))
-
--- a fault other than none is one
-pub not_done : (f : Fault) → (f ≡ Fault.Done → ⊥) → is_done f ≡ false
-unfolding is_done fault_number
-not_done Fault.Done h = absurd (h refl)
-not_done Fault.SourceTooLong h = refl
-not_done Fault.LineTooLong h = refl
-not_done Fault.UnknownKind h = refl
-not_done Fault.TooManyFields h = refl
-not_done (Fault.Malformed FieldKind.Name) h = refl
-not_done (Fault.Malformed FieldKind.Address) h = refl
-not_done (Fault.Malformed FieldKind.Number) h = refl
-not_done (Fault.Malformed FieldKind.Time) h = refl
-not_done (Fault.Malformed FieldKind.Lo) h = refl
-not_done (Fault.Malformed FieldKind.Escape) h = refl
-not_done Fault.ReservedType h = refl
-not_done (Fault.Empty k) h = refl
-not_done Fault.NoRoom h = refl
 
 pub ruleset fields_laws = (rules, begin_fields, all_good, next_field, first_fault, not_done)
 

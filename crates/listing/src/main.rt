@@ -9,6 +9,7 @@ use compiler::compile::compile;
 use console::arguments::argument;
 use files::files::read_file;
 use held::nth;
+use places::Place;
 use refusals::faults::number;
 use refusals::replies::{outcome_number, reply_number};
 use rules::faults::Fault;
@@ -17,19 +18,20 @@ use rules::replies::{Reply, Response};
 use serving::compile_and_ask;
 use vahmizar::served::Served;
 
+const SERIAL: u32 = 1000;
+
 // Every record of whole records.
 fn print_places(rt: &HostRuntime, records: &[u8]) {
-    for place in 0..u64::MAX {
-        let found = nth(records, place);
-        if !found.whole {
+    for ordinal in 0..u64::MAX {
+        let Ok(Place { key, rdata, next }) = nth(records, ordinal) else {
             return;
-        }
-        let _ = println!(rt; " {} {} {}", found.key, found.rdata, found.next);
+        };
+        let _ = println!(rt; " {key} {rdata} {next}");
     }
 }
 
 fn list_records(rt: &HostRuntime, source: &[u8], out: &mut [u8]) {
-    let answer = compile(source, 1000, out);
+    let answer = compile(source, SERIAL, out);
     if answer.fault != Fault::Done {
         return;
     }
@@ -78,7 +80,7 @@ fn ask_all(rt: &HostRuntime, source: &[u8], out: &mut [u8]) {
     for ordinal in 0..u64::MAX {
         let served = compile_and_ask(
             source,
-            1000,
+            SERIAL,
             out,
             name,
             255,

@@ -13,7 +13,7 @@ use a_aaaa::a_aaaa::put_address;
 use buffer::put::put_bytes;
 use heads::heads::put_head;
 use hosts::hosts::HostLine;
-use integers::integers::put_u16;
+use integers::integers::put_be;
 use rules::kinds::Kind;
 use rules::quantities::Shared;
 use splits::splits::Fields;
@@ -27,7 +27,7 @@ fn put_mx(out: &mut [u8], owner: &[u8], shared: Shared, dist: u16, host: &[u8]) 
     ensures value { result ≡ head_size shared owner.now + (2 + length host.now) }
 {
     let a = put_head(out, owner, 15, shared, 2 + host.len());
-    let b = a + put_u16(&mut out[a..], dist);
+    let b = a + put_be(&mut out[a..], dist);
     b + put_bytes(&mut out[b..], host)
 }
 

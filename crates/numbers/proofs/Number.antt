@@ -1,5 +1,5 @@
 -- The laws of a number: what its digits say, within its length and its limit.
-use Rattle.std.proofs.Common.{◌≡◌, refl, ◌∙◌, sym, ℕ, ◌<◌, ◌≤◌, List, length, Option, Some, None, Bool, true, false, ◌&&◌, arith, rules, leb}
+use Rattle.std.proofs.Common.{◌≡◌, refl, ◌∙◌, sym, ℕ, ◌<◌, ◌≤◌, List, length, Option, Some, None, Bool, true, false, ◌&&◌, arith, leb}
 use Rattle.std.proofs.lemmas.Option.{none-some}
 use borrow.Author.Tests.{le-leb, lt-leb, leb-true}
 use Rattle.rules.specs.Lists.{pick, all}

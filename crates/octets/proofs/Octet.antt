@@ -6,7 +6,7 @@ use Rattle.rules.specs.Lists.{pick, join_all, split_on}
 use Rattle.rules.specs.Fields.{decimal_from, first_is_zero, octet, octet_byte, number_of}
 use Rattle.numbers.proofs.Number.{value_within}
 use Rattle.pieces.specs.Pieces.{read_all, read_in}
-use Rattle.pieces.proofs.Read.{address_read, none_read, some_read}
+use Rattle.pieces.proofs.Read.{address_read}
 use Rattle.octets.specs.Octets.{leading_zero, octet_of, octets_of}
 
 pub short : (t : List ℕ) → length t < 2 → false ≡ leading_zero t

@@ -1,5 +1,5 @@
 -- The laws of a byte looked for.
-use Rattle.std.proofs.Common.{◌≡◌, refl, ap, ◌∙◌, sym, ℕ, ◌+◌, ◌-◌, ◌<◌, ◌≤◌, List, [], ◌∷◌, suc, length, drop, length-drop, eqb, arith, Bool, true, false, ◌||◌}
+use Rattle.std.proofs.Common.{◌≡◌, refl, ap, ℕ, ◌+◌, ◌≤◌, List, [], ◌∷◌, suc, length, drop, length-drop, eqb, arith, Bool, true, false, ◌||◌}
 use Rattle.std.specs.List.{list_any}
 use Rattle.rules.specs.Lists.{has, pick}
 use borrow.Author.Tests.{eq-eqb, ne_eqb}

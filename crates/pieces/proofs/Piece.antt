@@ -1,16 +1,15 @@
 -- The laws of the pieces of a text.
-use mathlib.Core.Path.{◌≡◌, refl, ◌∙◌, sym}
+use mathlib.Core.Path.{◌≡◌, refl, ◌∙◌}
 use mathlib.Core.Bool.{Bool, true, false}
 use mathlib.Core.List.{List, [], ◌∷◌}
 use Prim.Native.Nat.{ℕ, zero, suc, ◌+◌, ◌-◌, ◌<◌, ◌≤◌}
-use native.Mathlib.Nat.{add-zero}
 use native.Mathlib.Numerals.{add-one}
 use native.Mathlib.Omega.{arith}
 use lib.Dec.{eqb}
 use lib.ListN.{length, take, drop, drop_of_length-le}
 use lib.Seq.{drop-cons, drop-drop}
 use Rattle.rules.specs.Lists.{pick, onto_first, split_on}
-use Rattle.std.proofs.Common.{Option, Some, None, Bor, ap}
+use Rattle.std.proofs.Common.{Option, Some, None, Bor}
 use Rattle.std.proofs.lemmas.List.{take_rest}
 use mathlib.Core.Logic.{⊎_elim}
 use Rattle.std.specs.Slice.{IsGetRangeResult}

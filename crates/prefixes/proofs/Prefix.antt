@@ -1,5 +1,5 @@
 -- The laws of a prefix, from what its numbers tell.
-use Rattle.std.proofs.Common.{◌≡◌, refl, ◌∙◌, ℕ, List, [], ◌∷◌, length, Option, Some, rules, arith}
+use Rattle.std.proofs.Common.{◌≡◌, refl, ℕ, List, [], ◌∷◌, length, Some, arith}
 use Rattle.rules.specs.Fields.{prefix_of}
 use Rattle.octets.specs.Octets.{octets_of}
 

@@ -16,7 +16,7 @@ use Rattle.rules.specs.Questions.{Question}
 use Rattle.rules.specs.Reading.{ask_response}
 use Rattle.rules.specs.Demands.{Accepted, bytes_needed, CompilingRefusesExactly, compiled_bytes}
 use Rattle.rules.proofs.Refusals.{refuses_exactly}
-use Rattle.refusals.proofs.Done.{done_is_done, other_is_refused}
+use Rattle.refusals.proofs.Numbers.{done, not_done}
 use Rattle.wire.proofs.Parts.{front_count}
 use Rattle.compiler.specs.Compiled.{IsCompiled}
 use Rattle.vahmizar.specs.Promises.{served_numbers, Serves}
@@ -35,7 +35,7 @@ module _ (source : List ℕ) (serial : ℕ) (out out' : List ℕ) (a : Answer) (
   pub not_compiled : (q : Question) (ordinal : ℕ) → (a.fault ≡ Fault.Done → ⊥) → Serves source serial out q ordinal out' (Err a)
   unfolding pick served_numbers
   not_compiled q ordinal t =
-      let d : is_done a.fault ≡ false = other_is_refused a.fault t in
+      let d : is_done a.fault ≡ false = not_done a.fault t in
       record {
         served = rw (← c.answer, d);
         numbers = rw (← c.answer, d);
@@ -61,7 +61,7 @@ module _ (source : List ℕ) (serial : ℕ) (out out' : List ℕ) (a : Answer) (
         → Serves source serial out q ordinal out' (Ok said)
     unfolding pick compiled_bytes served_numbers
     served q ordinal said e =
-        let d : is_done a.fault ≡ true = done_is_done a.fault t in
+        let d : is_done a.fault ≡ true = done a.fault t in
         record {
           served = rw (← c.answer, d, ← c.output, ← e);
           numbers = rw (← c.answer, d, ← c.output, ← e);

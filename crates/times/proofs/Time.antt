@@ -1,5 +1,5 @@
 -- The laws of a time: the number of its digits, within its limits.
-use Rattle.std.proofs.Common.{◌≡◌, refl, ◌∙◌, sym, ℕ, ◌<◌, ◌≤◌, List, length, Option, Some, None, Bool, true, false, ◌&&◌, arith, rules, leb, ltb, eqb}
+use Rattle.std.proofs.Common.{◌≡◌, refl, sym, ℕ, ◌<◌, ◌≤◌, List, length, Some, None, Bool, true, false, ◌&&◌, arith, leb, ltb, eqb}
 use Rattle.std.proofs.lemmas.Option.{none-some}
 use borrow.Author.Tests.{le-leb, lt-leb, lt-ltb, le-ltb}
 use Rattle.rules.specs.Lists.{pick, all}

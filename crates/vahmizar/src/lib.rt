@@ -8,7 +8,7 @@ ghost use Rattle.vahmizar.specs.Promises.{Compiles, Asks};
 mod answer_bytes;
 pub mod served;
 
-use answer_bytes::{put_four, put_response};
+use answer_bytes::{put_numbers, put_response};
 use compiler::compile::compile;
 use reader::ask;
 use refusals::faults::number;
@@ -22,15 +22,14 @@ pub fn tinydns_compile(source: &[u8], serial: u32, out: &mut [u8], answer: &mut 
         return 19;
     }
     let said = compile(source, serial, out);
-    let fault = said.fault;
-    let first = number(fault);
-    put_four(
-        answer,
+    let first = number(said.fault);
+    let numbers = [
         first,
         said.line as u64,
         said.field as u64,
         said.bytes as u64,
-    );
+    ];
+    put_numbers(answer, &numbers);
     first
 }
 

@@ -6,4 +6,4 @@ returns-then-answer-ne32 c = compile_length _ _ _ _ c.if-answer-ne32.true
 
 pub returns : goal.returns
 returns c =
-    compile_called _ _ _ _ _ _ _ _ _ c.if-answer-ne32.false c.compile-said.ensures c.number-first.ensures c.put_four.ensures.put c.put_four.ensures.value
+    compile_called _ _ _ _ _ _ _ _ _ c.if-answer-ne32.false c.compile-said.ensures c.number-first.ensures c.put_numbers.ensures.put c.put_numbers.ensures.value

@@ -1,4 +1,4 @@
-use Rattle.std.proofs.Common.{◌≡◌, ◌∙◌, ap, sym, length, Some, arith}
+use Rattle.std.proofs.Common.{◌≡◌, ◌∙◌, ap, length, Some, arith}
 use Rattle.addresses.proofs.Forms.{no_numbers, too_few, just_four, four}
 use Rattle.addresses.proofs.addresses.dotted_address.Goals as goal
 

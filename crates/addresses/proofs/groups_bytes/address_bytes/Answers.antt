@@ -11,8 +11,8 @@ loop-i-preserved c =
     let n : length c.args.groups ≡ 8 = search rules in (
       same_len_mid (2 * c.loop-i.i) _ c.loop-i.bytes c.copy_from_slice.new.self c.copy_from_slice.ensures.len ∙ c.loop-i.invariant.0,
       more_bytes c.args.groups c.loop-i.bytes c.copy_from_slice.new.self c.loop-i.i _ c.loop-i.invariant.1 (omega (arith, n, c.loop-i-test.true))
-      (omega (arith, c.loop-i.invariant.0, c.loop-i-test.true))
-      (c.copy_from_slice.ensures.after ∙ c.to_be_bytes.ensures ∙ two_bytes _),
+          (omega (arith, c.loop-i.invariant.0, c.loop-i-test.true))
+          (c.copy_from_slice.ensures.after ∙ c.to_be_bytes.ensures ∙ two_bytes _),
     )
 
 pub returns : goal.returns

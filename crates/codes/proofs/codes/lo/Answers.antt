@@ -1,4 +1,4 @@
-use Rattle.std.proofs.Common.{◌∙◌, arith}
+use Rattle.std.proofs.Common.{◌∙◌}
 use Rattle.codes.proofs.Los.{one, one_none, two, first_none, second_none, empty, long}
 use Rattle.codes.proofs.codes.lo.Goals as goal
 

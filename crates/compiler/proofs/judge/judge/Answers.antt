@@ -1,60 +1,22 @@
-use borrow.Author.Rules.{rules}
-use Rattle.compiler.proofs.Judging.{judge_laws, next_line}
+use mathlib.Core.Path.{refl}
+use mathlib.Core.Logic.{inl}
+use native.Mathlib.Omega.{arith}
+use Rattle.compiler.proofs.Lines.{lines_few}
+use Rattle.compiler.proofs.Judging.{judge_laws, begin_judging, bad_line}
 use Rattle.compiler.proofs.judge.judge.Goals as goal
 
-pub loop-at-init : goal.loop-at-init
-loop-at-init c = search judge_laws
+-- no more lines are counted than there are bytes
+pub loop-i-init : goal.loop-i-init
+loop-i-init c =
+    rw (c.into_iter-i-iterator.ensures.into_iter_gives, c.enumerate-i-items.ensures.count, c.enumerate-i-items.ensures.source, c.new.ensures)
+    ((tt, tt, inl (omega (arith, lines_few c.args.source.now))), tt, search judge_laws, begin_judging _ _ _ refl)
 
-pub slice_bounds-line_length-count : goal.slice_bounds-line_length-count
-slice_bounds-line_length-count c = search judge_laws
+pub loop-i-preserved : goal.loop-i-preserved
+loop-i-preserved c = search judge_laws
 
-pub slice_bounds-line_length-start : goal.slice_bounds-line_length-start
-slice_bounds-line_length-start c = search judge_laws
-
-pub slice_bounds-line_length-end : goal.slice_bounds-line_length-end
-slice_bounds-line_length-end c = search judge_laws
-
-pub line_length-requires : goal.line_length-requires
-line_length-requires c = search judge_laws
-
-pub overflow_add-end : goal.overflow_add-end
-overflow_add-end c = search judge_laws
-
-pub slice_bounds-size_line-end : goal.slice_bounds-size_line-end
-slice_bounds-size_line-end c = search judge_laws
-
-pub slice_bounds-size_line-count : goal.slice_bounds-size_line-count
-slice_bounds-size_line-count c = search judge_laws
-
-pub slice_bounds-size_line-start : goal.slice_bounds-size_line-start
-slice_bounds-size_line-start c = search judge_laws
-
-pub slice_bounds-size_line-end-in-loop-at : goal.slice_bounds-size_line-end-in-loop-at
-slice_bounds-size_line-end-in-loop-at c = search judge_laws
-
-pub size_line-line-requires : goal.size_line-line-requires
-size_line-line-requires c = search judge_laws
-
-pub number-requires : goal.number-requires
-number-requires c = search judge_laws
-
-pub returns-then-number-ne0 : goal.returns-then-number-ne0
-returns-then-number-ne0 c = search judge_laws
-
-pub overflow_add-number : goal.overflow_add-number
-overflow_add-number c = search judge_laws
-
-pub overflow_add-total : goal.overflow_add-total
-overflow_add-total c = search judge_laws
-
-pub overflow_add-at : goal.overflow_add-at
-overflow_add-at c = search judge_laws
-
-pub loop-at-smaller : goal.loop-at-smaller
-loop-at-smaller c = search judge_laws
-
-pub loop-at-preserved : goal.loop-at-preserved
-loop-at-preserved c = (search rules, search judge_laws, search rules, search rules, search next_line)
+pub returns-in-Err : goal.returns-in-Err
+returns-in-Err c =
+    bad_line _ _ _ _ _ c.loop-i.invariant.3 _ _ c.in-Some.ensures.steps.0 _ c.in-Some.ensures.steps.1 _ c.in-Err.ensures
 
 pub returns : goal.returns
 returns c = search judge_laws

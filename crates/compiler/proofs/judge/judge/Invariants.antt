@@ -1,16 +1,13 @@
-use mathlib.Core.Path.{◌≡◌}
-use Prim.Native.Nat.{◌+◌, ◌-◌, ◌*◌, ◌≤◌}
+use Rattle.std.specs.Iterator.Adapters.{enumerate_source, enumerate_count}
 use lib.ListN.{length}
+use mathlib.Core.Path.{◌≡◌}
+use Rattle.rules.specs.Kinds.{lines_of}
 use Rattle.compiler.proofs.Judging.{Judging}
 use Rattle.compiler.proofs.judge.judge.Given as goal
 
-abbrev pub invariant-loop-at : goal.invariant-loop-at
-invariant-loop-at l =
-    (length l.scratch ≡ 16384)
-    × (l.at ≤ length l.source + 1)
-    × (l.number ≤ l.at + 1)
-    × (l.total ≤ 16384 * l.at)
-    × Judging l.serial l.source l.number l.total l.at
-
-abbrev pub decreases-loop-at : goal.decreases-loop-at
-decreases-loop-at l = length l.source + 1 - l.at
+abbrev pub invariant-loop-i : goal.invariant-loop-i
+invariant-loop-i l =
+    (goal.iterator-loop-i).can_next l.i-iterator
+    × (goal.iterator-loop-i).is_finite l.i-iterator
+    × (length l.scratch ≡ 16384)
+    × Judging l.serial l.source (lines_of (enumerate_source l.i-iterator).left.now) (enumerate_count l.i-iterator) l.total

@@ -1,11 +1,11 @@
 use Rattle.compiler.proofs.Judging.{size_laws}
 use Rattle.compiler.proofs.judge.size_line.Goals as goal
 
-pub put_line-size-requires : goal.put_line-size-requires
-put_line-size-requires c = search size_laws
+pub put_line-requires : goal.put_line-requires
+put_line-requires c = search size_laws
 
-pub returns-then-number-eq0 : goal.returns-then-number-eq0
-returns-then-number-eq0 c = search size_laws
+pub returns-in-Done : goal.returns-in-Done
+returns-in-Done c = search size_laws
 
-pub returns : goal.returns
-returns c = search size_laws
+pub returns-in_default : goal.returns-in_default
+returns-in_default c = search size_laws

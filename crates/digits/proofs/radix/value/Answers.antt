@@ -1,4 +1,4 @@
-use Rattle.std.proofs.Common.{◌≡◌, ◌∙◌, ◌≤◌, ◌<◌, sym, length, arith}
+use Rattle.std.proofs.Common.{◌∙◌, sym}
 use Rattle.digits.proofs.Digit.{next, no_digit, at_end, more_digits, times_fits, more_fits}
 use Rattle.digits.proofs.radix.value.Goals as goal
 

@@ -1,4 +1,3 @@
-use Rattle.std.proofs.Common.{◌∙◌, refl}
 use Rattle.rules.specs.Lists.{has}
 use Rattle.rules.specs.Fields.{reserved}
 use Rattle.fields.proofs.faults.is_reserved.Goals as goal

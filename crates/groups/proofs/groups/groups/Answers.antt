@@ -1,4 +1,4 @@
-use Rattle.std.proofs.Common.{◌≡◌, ◌∙◌, ℕ, ap, length, rules}
+use Rattle.std.proofs.Common.{◌∙◌, ap, rules}
 use Rattle.groups.specs.Groups.{group_of}
 use Rattle.groups.proofs.Group.{refused, eight, other}
 use Rattle.groups.proofs.groups.groups.Goals as goal

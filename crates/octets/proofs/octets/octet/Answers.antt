@@ -1,5 +1,4 @@
-use Rattle.std.proofs.Common.{◌∙◌, ◌≡◌, sym, Some, rules, ℕ, Option}
-use Rattle.octets.specs.Octets.{octet_of}
+use Rattle.std.proofs.Common.{◌∙◌, sym, rules}
 use Rattle.octets.proofs.Octet.{long, zero_ahead, number_is, byte_fits}
 use Rattle.octets.proofs.octets.octet.Goals as goal
 

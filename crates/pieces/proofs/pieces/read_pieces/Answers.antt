@@ -1,5 +1,4 @@
-use Rattle.std.proofs.Common.{◌≡◌, ◌∙◌, ◌<◌, ◌+◌, sym, ap, refl, length, take, set, length-take, arith, rules}
-use Rattle.rules.specs.Lists.{split_on}
+use Rattle.std.proofs.Common.{◌∙◌, ◌<◌, ap, length, arith}
 use Rattle.std.proofs.lemmas.Grind.{common_steps}
 use Rattle.std.proofs.lemmas.List.{take_more_set}
 use Rattle.pieces.specs.Pieces.{pieces_left}
@@ -8,7 +7,7 @@ use Rattle.pieces.proofs.pieces.read_pieces.Goals as goal
 
 pub loop-piece-init : goal.loop-piece-init
 loop-piece-init g c =
-    let e = ap (λ s. pieces_left s.by s.left) c.into_iter-piece-iterator.ensures.into_iter_gives ∙ c.new-piece-items.ensures in
+    let e = c.into_iter-piece-iterator.ensures.into_iter_gives ∙ c.new-piece-items.ensures in
     (omega arith, λ f q. begin f _ _ e)
 
 pub returns-then-count-out-clause-values : goal.returns-then-count-out-clause-values

@@ -1,4 +1,4 @@
-use Rattle.std.proofs.Common.{◌∙◌, rules}
+use Rattle.std.proofs.Common.{rules}
 use Rattle.times.proofs.Time.{no_number, within, zero, late}
 use Rattle.times.proofs.times.time.Goals as goal
 
