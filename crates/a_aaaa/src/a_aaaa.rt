@@ -9,12 +9,7 @@ use addresses::address::Address;
 use records::resources::put_resource;
 use rules::quantities::Shared;
 
-pub fn put_address(
-    out: &mut [u8],
-    owner: &[u8],
-    address: Option<Address>,
-    shared: Shared,
-) -> usize
+pub fn put_address(out: &mut [u8], owner: &[u8], address: Option<Address>, shared: Shared) -> usize
     requires { length (bytes_of (address_records shared owner.now (held_address address))) ≤ length out.old }
     ensures { IsPut (bytes_of (address_records shared owner.now (held_address address))) out.old out.new result }
 {
