@@ -48,6 +48,7 @@ pub fn judge_text(text: &[u8]) -> Option<usize>
 {
     let mut count = 0;
     let mut left = text;
+    // a turn takes one byte or four, so no method that walks a slice fits
     while left.len() != 0 {
         let (_, rest) = front(left)?;
         count += 1;

@@ -1,7 +1,6 @@
-use Rattle.std.proofs.Common.{◌∙◌, ◌<◌, ap, length, arith}
+use Rattle.std.proofs.Common.{◌∙◌, ◌<◌, length, arith}
 use Rattle.std.proofs.lemmas.Grind.{common_steps}
 use Rattle.std.proofs.lemmas.List.{take_more_set}
-use Rattle.pieces.specs.Pieces.{pieces_left}
 use Rattle.pieces.proofs.Read.{called, begin, full, bad, turn, end}
 use Rattle.pieces.proofs.pieces.read_pieces.Goals as goal
 

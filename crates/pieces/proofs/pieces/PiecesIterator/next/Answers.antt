@@ -1,4 +1,4 @@
-use Rattle.std.proofs.Common.{◌≡◌, refl, sym, ap, length, rules, ◌∙◌, List, ℕ, []}
+use Rattle.std.proofs.Common.{◌≡◌, sym, ap, length, rules, ◌∙◌, []}
 use Rattle.pieces.specs.Pieces.{pieces_left}
 use Rattle.pieces.proofs.Piece.{left}
 use Rattle.pieces.proofs.pieces.PiecesIterator.next.Goals as goal
@@ -17,6 +17,6 @@ returns-clause-steps c =
 pub returns-clause-goes : goal.returns-clause-goes
 returns-clause-goes c =
     let shorter = ap length
-        (sym c.self.view_is
-        ∙ left c.self.inside.by c.self.inside.left c.in_ok-text.text c.in_ok-text.was c.first_place-end.result c.get-self-inside.result c.first_place-end.ensures.place c.get-self-inside.ensures.lookup) in
+    (sym c.self.view_is
+    ∙ left c.self.inside.by c.self.inside.left c.in_ok-text.text c.in_ok-text.was c.first_place-end.result c.get-self-inside.result c.first_place-end.ensures.place c.get-self-inside.ensures.lookup) in
     search rules
