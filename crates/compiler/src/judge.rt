@@ -9,7 +9,8 @@ use lines::judge::line_fault;
 use rules::faults::{Answer, Fault, LineFault};
 use writer::line::put_line;
 
-// How many bytes a line's records take, or its first fault. They are written into a scratch buffer for their size alone.
+// How many bytes a line's records take, or its first fault.
+// They are written into a scratch buffer for their size alone.
 fn size_line(scratch: &mut [u8], line: &[u8], serial: u32) -> Result<usize, LineFault>
     requires { length scratch.old ≡ 16384 }
     ensures { MatchResult result (IsSize serial line.now) (IsFault line.now) }

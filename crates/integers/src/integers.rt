@@ -73,6 +73,7 @@ pub fn put_le(out: &mut [u8], width: usize, n: u64) -> usize
     width
 }
 
+// The same, the lowest first. Only the writer that is called differs: one lent as a closure is no plainer.
 pub fn put_each_le(out: &mut [u8], width: usize, numbers: &[u64]) -> usize
     requires { width * length numbers.now ≤ length out.old }
     ensures put { IsPut (join_all (map (le width) numbers.now)) out.old out.new result }

@@ -7,7 +7,7 @@ use rules::kinds::Meaning::{
     RecordType, Short, Target, Text, Time, Ttl,
 };
 
-// What the table has of a kind: how many fields, the default ttl, and the meaning of each field.
+// What the table has of a kind: how many fields, a column of its own, the default ttl, and each field's meaning.
 #[derive(Clone, Copy)]
 pub struct Row {
     pub count: usize,
