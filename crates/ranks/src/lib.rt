@@ -42,16 +42,13 @@ fn is_lowered(key: u8, b: u8) -> bool
 fn same_lowered(key: &[u8], name: &[u8]) -> bool
     ensures { result ≡ same_bytes key.now (map lower name.now) }
 {
-    let n = key.len();
-    if n != name.len() {
+    if key.len() != name.len() {
         return false;
     }
-    let mut i: usize = 0;
-    while i < n {
-        if !is_lowered(key[i], name[i]) {
+    for (i, &b) in key.iter().enumerate() {
+        if !is_lowered(b, name[i]) {
             return false;
         }
-        i += 1;
     }
     true
 }

@@ -1,4 +1,3 @@
-use Prim.Native.Nat.{◌-◌, ◌≤◌}
 use mathlib.Core.Path.{◌≡◌}
 use mathlib.Core.List.{map}
 use lib.ListN.{length, drop}
@@ -6,7 +5,4 @@ use Rattle.rules.specs.Lists.{lower, same_bytes}
 use Rattle.ranks.proofs.same_lowered.Given as goal
 
 abbrev pub invariant-loop-i : goal.invariant-loop-i
-invariant-loop-i l = (l.i ≤ length l.key) × (length l.key ≡ length l.name) × (same_bytes (drop l.i l.key) (drop l.i (map lower l.name)) ≡ same_bytes l.key (map lower l.name))
-
-abbrev pub decreases-loop-i : goal.decreases-loop-i
-decreases-loop-i l = length l.key - l.i
+invariant-loop-i l = (length l.key ≡ length l.name) × (same_bytes (drop l.i l.key) (drop l.i (map lower l.name)) ≡ same_bytes l.key (map lower l.name))
