@@ -6,6 +6,7 @@ use borrow.Author.Rules.{rules}
 use borrow.Author.Tests.{eq-eqb, ne_eqb, not-true, not-false}
 use lib.ListN.{length}
 use lib.Dec.{eqb, leb, ltb}
+use Rattle.rules.specs.contracts.quantities.LoPartialEq.TheImpl.{ghosts}
 use Rattle.rules.specs.declared.quantities.Lo.{Lo}
 use Rattle.rules.specs.declared.quantities.Shared.{Shared}
 use Rattle.rules.specs.Lists.{pick, same_bytes}
@@ -15,26 +16,17 @@ use Rattle.view.specs.Views.{sharing}
 
 -- ---- lo
 
-module _ (lo here : Lo) where
-  pub for_all : lo ≡ Lo.Every → true ≡ (eqb (length (lo_bytes lo)) 0 || same_bytes (lo_bytes lo) (lo_bytes here))
-  unfolding lo_bytes
-  for_all e = rw e
+pub for_all : (lo here : Lo) → lo ≡ Lo.Every → true ≡ (eqb (length (lo_bytes lo)) 0 || same_bytes (lo_bytes lo) (lo_bytes here))
+unfolding lo_bytes
+for_all lo here e = rw e
 
-  module _ (a b : ℕ) (e : lo ≡ Lo.Code a b) where
-    pub nowhere : here ≡ Lo.Every → false ≡ (eqb (length (lo_bytes lo)) 0 || same_bytes (lo_bytes lo) (lo_bytes here))
-    unfolding lo_bytes same_bytes
-    nowhere h = rw (e, h)
+-- the derived equality compares the bytes of two codes
+pub told : (a b : ℕ) (here : Lo) → ghosts.eq (Lo.Code a b) here ≡ (eqb (length (lo_bytes (Lo.Code a b))) 0 || same_bytes (lo_bytes (Lo.Code a b)) (lo_bytes here))
+unfolding lo_bytes same_bytes
+told a b Lo.Every = refl
+told a b (Lo.Code c d) = rw and-true
 
-    module _ (c d : ℕ) (h : here ≡ Lo.Code c d) where
-      pub first_differs : (a ≡ c → ⊥) → false ≡ (eqb (length (lo_bytes lo)) 0 || same_bytes (lo_bytes lo) (lo_bytes here))
-      unfolding lo_bytes same_bytes
-      first_differs n = rw (e, h, ne_eqb a c n)
-
-      pub second_tells : a ≡ c → eqb b d ≡ (eqb (length (lo_bytes lo)) 0 || same_bytes (lo_bytes lo) (lo_bytes here))
-      unfolding lo_bytes same_bytes
-      second_tells q = rw (e, h, eq-eqb a c q, and-true)
-
-pub ruleset here_laws = (rules, for_all, nowhere, first_differs, second_tells)
+pub ruleset here_laws = (rules, for_all)
 
 -- ---- time
 

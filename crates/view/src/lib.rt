@@ -16,15 +16,7 @@ fn is_here(lo: Lo, here: Lo) -> bool
 {
     match lo {
         Lo::Every => true,
-        Lo::Code(a, b) => match here {
-            Lo::Every => false,
-            Lo::Code(c, d) => {
-                if a != c {
-                    return false;
-                }
-                b == d
-            }
-        },
+        Lo::Code(_, _) => lo == here,
     }
 }
 
