@@ -57,25 +57,22 @@ fn same_lowered(key: &[u8], name: &[u8]) -> bool
 fn is_ancestor(name: &[u8], key: &[u8]) -> bool
     ensures { result ≡ among key.now (ancestors (map lower name.now)) }
 {
-    let n = name.len();
-    if n <= key.len() {
+    if name.len() <= key.len() {
         return false;
     }
-    let mut i: usize = 0;
-    while i < n {
-        let first = lowered(name[i]);
-        let label = wide(first);
+    let mut rest = name;
+    while let Some((&first, behind)) = rest.split_first() {
+        let label = usize::from(lowered(first));
         if label == 0 {
             return false;
         }
-        if ((n - i - 1) as u64) < label {
+        if behind.len() < label {
             return false;
         }
-        let next = i + 1 + label as usize;
-        if same_lowered(key, &name[next..]) {
+        rest = &behind[label..];
+        if same_lowered(key, rest) {
             return true;
         }
-        i = next;
     }
     false
 }
