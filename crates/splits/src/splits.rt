@@ -33,9 +33,9 @@ impl<'a> Model for Fields<'a> {
     ghost invariant = { λ f. FieldsOf f.rest.now f.spans };
 }
 
-impl Fields<'_> {
+impl<'a> Fields<'a> {
     // The text of field i, from 0.
-    pub fn field(&self, i: usize) -> &[u8]
+    pub fn field(&self, i: usize) -> &'a [u8]
         requires { i < 11 }
         ensures { result.now ≡ field_at self.now i }
     {
