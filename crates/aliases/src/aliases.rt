@@ -53,12 +53,7 @@ fn put_alias(out: &mut [u8], line: &AddressLine) -> usize
     requires { length (bytes_of (alias_records line.now)) ≤ length out.old }
     ensures { IsPut (bytes_of (alias_records line.now)) out.old out.new result }
 {
-    put_address(
-        out,
-        line.owner.as_slice(),
-        Some(line.address),
-        line.shared,
-    )
+    put_address(out, line.owner.as_slice(), Some(line.address), line.shared)
 }
 
 pub fn put_alias_line(out: &mut [u8], fields: &Fields) -> usize

@@ -30,8 +30,6 @@ module _ (fields : List (List ℕ)) (kind : Kind) (shared : Shared) (owner targe
   pub target_put : (d e : List ℕ) (r : ℕ) → IsPut (encode (resource_of shared owner type target)) d e r → IsPut (bytes_of (records_of 0 kind fields)) d e r
   target_put d e r q = rw (← target_is) q
 
-
-
 module _ (fields : List (List ℕ)) where
   pub pointer_points : Ready Kind.Pointer fields → Points Kind.Pointer fields 12
   unfolding field_count meanings common fault_of records_of
