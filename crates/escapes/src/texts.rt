@@ -64,6 +64,7 @@ pub fn put_text(out: &mut [u8], text: &[u8]) -> usize
 {
     let mut used = 0;
     let mut left = text;
+    // as in judge_text, a turn takes one byte or four
     while let Some((b, rest)) = front(left) {
         out[used] = b;
         used += 1;

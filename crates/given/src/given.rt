@@ -11,6 +11,7 @@ use names::names::{Name, put_label, read_name};
 use pieces::pieces::has_byte;
 
 // A label, a second one and a name, one behind the other. Out of line, as put_name.
+// Three writers in turn, as for the data of an SOA record: one function of both would state their contracts again.
 #[inline(never)]
 fn put_joined(out: &mut [u8], x: &[u8], middle: &[u8], owner: &[u8]) -> usize
     requires { (length x.now ≤ 63) × (length middle.now ≤ 63) × (length (label x.now) + length (label middle.now) + length owner.now ≤ length out.old) }

@@ -6,6 +6,7 @@ pub fn stripped(line: &[u8]) -> usize
     ensures { IsStripped line.now result }
 {
     let mut left = line;
+    // rposition would answer a place, with a 1 to add and a 0 for none: no plainer
     while let [rest @ .., b' ' | b'\t'] = left {
         left = rest;
     }

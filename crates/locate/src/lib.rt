@@ -187,6 +187,7 @@ pub fn judge_and_locate(stream: &[u8], client: &[u8], name: &[u8]) -> Option<Jud
     let mut level: Option<Part> = None;
     let mut control: Option<Part> = None;
     let mut at: usize = 0;
+    // the place goes on here: next_stop is a loop of its own, so that judging has no calls
     while let Some(stop) = next_stop(stream, name, at) {
         let Span {
             start,

@@ -61,6 +61,7 @@ fn is_ancestor(name: &[u8], key: &[u8]) -> bool
         return false;
     }
     let mut rest = name;
+    // a label's length says where the next begins, so no method that walks a slice fits
     while let Some((&first, behind)) = rest.split_first() {
         let label = usize::from(lowered(first));
         if label == 0 {

@@ -16,6 +16,7 @@ pub fn lengths_of(name: &[u8]) -> [bool; 256]
     let mut lengths = [false; 256];
     lengths[name.len()] = true;
     let mut rest = name;
+    // a label's length says where the next begins, so no method that walks a slice fits
     while let Some((&label, behind)) = rest.split_first() {
         let label = usize::from(label);
         if label == 0 {

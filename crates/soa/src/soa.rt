@@ -46,6 +46,8 @@ fn put_soa_data(out: &mut [u8], mname: &[u8], rname: &[u8], numbers: SoaNumbers)
     b + put_soa_numbers(&mut out[b..], numbers)
 }
 
+// A head and the data behind it, as a service has them too: one function over a writer of the data would need a longer
+// contract than its body.
 pub fn put_soa(
     out: &mut [u8],
     owner: &[u8],

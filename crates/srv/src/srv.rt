@@ -25,6 +25,7 @@ fn put_srv_data(
     used + put_bytes(&mut out[used..], host)
 }
 
+// Like an SOA record in shape alone: see soa.
 pub fn put_srv(
     out: &mut [u8],
     owner: &[u8],

@@ -31,6 +31,7 @@ fn text_at(fields: &Fields, i: usize) -> PlainText
     Filled::new(bytes, len)
 }
 
+// Like the line of a name in shape alone: a text goes out in chunks.
 pub fn put_text_line(out: &mut [u8], fields: &Fields) -> usize
     requires { Ready Kind.Text fields.now × (length (bytes_of (records_of 0 Kind.Text fields.now)) ≤ length out.old) }
     ensures { IsPut (bytes_of (records_of 0 Kind.Text fields.now)) out.old out.new result }
