@@ -37,11 +37,12 @@ def declarations(kind):
 def functions():
     # name, parameters, clauses and body of each function
     for path, text in texts.items():
-        head = r"(?m)^ *(?:pub(?:\(crate\))? )?(?:extern \"C\" )?fn (\w+)(?:<[^(]*>)?\((.*?)\)( -> [^\n{]*)?\s*((?:\n? +(?:requires|ensures)[^\n]*\n?)*)\s*\{\n"
+        head = r"(?m)^ *(?:pub(?:\(crate\))? )?(?:extern \"C\" )?fn (\w+)(?:<[^(]*>)?\((.*?)\)( -> [^\n{]*)?\s*((?:\n? +(?:requires|ensures|×)[^\n]*\n?)*)\s*\{\n"
         for m in re.finditer(head, text, re.S):
             indent = re.match(r" *", m.group(0)).group(0)
             end = text.find("\n" + indent + "}", m.end() - 1)
-            yield (name_of(path), text[: m.start()].count("\n") + 1, m.group(1), m.group(2), m.group(4), text[m.end() : end])
+            clauses = re.sub(r"\n +× ", " × ", m.group(4))
+            yield (name_of(path), text[: m.start()].count("\n") + 1, m.group(1), m.group(2), clauses, text[m.end() : end])
 
 
 def own_outcomes():

@@ -10,7 +10,7 @@ use records::resources::put_resource;
 use rules::quantities::Shared;
 
 // By the bytes of an address, which may be any: none has no record, four have an A, and others an AAAA.
-pub fn put_address_bytes(out: &mut [u8], owner: &[u8], bytes: &[u8], shared: Shared) -> usize
+pub fn put_address(out: &mut [u8], owner: &[u8], bytes: &[u8], shared: Shared) -> usize
     requires { length (bytes_of (address_records shared owner.now bytes.now)) ≤ length out.old }
     ensures { IsPut (bytes_of (address_records shared owner.now bytes.now)) out.old out.new result }
 {
@@ -21,12 +21,17 @@ pub fn put_address_bytes(out: &mut [u8], owner: &[u8], bytes: &[u8], shared: Sha
     }
 }
 
-pub fn put_address(out: &mut [u8], owner: &[u8], address: Option<Address>, shared: Shared) -> usize
+pub fn put_held_address(
+    out: &mut [u8],
+    owner: &[u8],
+    address: Option<Address>,
+    shared: Shared,
+) -> usize
     requires { length (bytes_of (address_records shared owner.now (held_address address))) ≤ length out.old }
     ensures { IsPut (bytes_of (address_records shared owner.now (held_address address))) out.old out.new result }
 {
     match address {
         None => 0,
-        Some(held) => put_address_bytes(out, owner, held.as_slice(), shared),
+        Some(held) => put_address(out, owner, held.as_slice(), shared),
     }
 }

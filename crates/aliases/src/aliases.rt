@@ -6,8 +6,9 @@ ghost use Rattle.rules.specs.declared.kinds.Kind.{Kind};
 ghost use Rattle.buffer.specs.Put.{IsPut};
 ghost use Rattle.values.specs.Ready.{Ready};
 ghost use Rattle.aliases.specs.Alone.{alias_records, pointer_record};
+ghost use Rattle.splits.specs.Texts.{fields_of};
 
-use a_aaaa::a_aaaa::put_address;
+use a_aaaa::a_aaaa::put_held_address;
 use addresses::address::Address;
 use hosts::hosts::{address_of, name_at};
 use names::names::Name;
@@ -19,7 +20,7 @@ use splits::splits::Fields;
 use values::values::shared_of;
 
 // What such a line says.
-#[derive(Drop)]
+#[derive(Clone, Copy)]
 pub struct AddressLine {
     pub shared: Shared,
     pub owner: Name,
@@ -35,8 +36,9 @@ impl AddressLine {
 
     // What is read of a `+` or `=` line.
     fn read(fields: &Fields, kind: Kind) -> AddressLine
-        requires { Ready kind fields.now × (3 ≤ field_count kind) × (is_some (address_of (field_at fields.now 1)) ≡ true) }
-        ensures { IsAddressLine kind fields.now result }
+        requires { Ready kind (fields_of fields.now) × (3 ≤ field_count kind)
+            × (is_some (address_of (field_at (fields_of fields.now) 1)) ≡ true) }
+        ensures { IsAddressLine kind (fields_of fields.now) result }
     {
         let shared = shared_of(fields, kind);
         let owner = name_at(fields, 0);
@@ -53,12 +55,13 @@ fn put_alias(out: &mut [u8], line: &AddressLine) -> usize
     requires { length (bytes_of (alias_records line.now)) ≤ length out.old }
     ensures { IsPut (bytes_of (alias_records line.now)) out.old out.new result }
 {
-    put_address(out, line.owner.as_slice(), Some(line.address), line.shared)
+    put_held_address(out, line.owner.as_slice(), Some(line.address), line.shared)
 }
 
 pub fn put_alias_line(out: &mut [u8], fields: &Fields) -> usize
-    requires { Ready Kind.Alias fields.now × (length (bytes_of (records_of 0 Kind.Alias fields.now)) ≤ length out.old) }
-    ensures { IsPut (bytes_of (records_of 0 Kind.Alias fields.now)) out.old out.new result }
+    requires { Ready Kind.Alias (fields_of fields.now)
+        × (length (bytes_of (records_of 0 Kind.Alias (fields_of fields.now))) ≤ length out.old) }
+    ensures { IsPut (bytes_of (records_of 0 Kind.Alias (fields_of fields.now))) out.old out.new result }
 {
     let line = AddressLine::read(fields, Kind::Alias);
     put_alias(out, &line)
@@ -75,8 +78,9 @@ fn put_back(out: &mut [u8], line: &AddressLine) -> usize
 }
 
 pub fn put_host_line(out: &mut [u8], fields: &Fields) -> usize
-    requires { Ready Kind.Host fields.now × (length (bytes_of (records_of 0 Kind.Host fields.now)) ≤ length out.old) }
-    ensures { IsPut (bytes_of (records_of 0 Kind.Host fields.now)) out.old out.new result }
+    requires { Ready Kind.Host (fields_of fields.now)
+        × (length (bytes_of (records_of 0 Kind.Host (fields_of fields.now))) ≤ length out.old) }
+    ensures { IsPut (bytes_of (records_of 0 Kind.Host (fields_of fields.now))) out.old out.new result }
 {
     let line = AddressLine::read(fields, Kind::Host);
     let used = put_alias(out, &line);

@@ -6,6 +6,7 @@ ghost use Rattle.rules.specs.declared.kinds.Kind.{Kind};
 ghost use Rattle.buffer.specs.Put.{IsPut};
 ghost use Rattle.values.specs.Ready.{Ready};
 ghost use Rattle.authorities.specs.Numbers.{numbers_of};
+ghost use Rattle.splits.specs.Texts.{fields_of};
 
 use hosts::hosts::name_at;
 use rules::kinds::Kind;
@@ -15,7 +16,7 @@ use values::values::{long_at, shared_of};
 
 // The numbers of fields 3 to 7, each with its default, as the rules' definition writes them.
 fn soa_numbers(fields: &Fields, default: u32) -> SoaNumbers
-    ensures { result ≡ numbers_of default fields.now }
+    ensures { result ≡ numbers_of default (fields_of fields.now) }
 {
     SoaNumbers {
         serial: long_at(fields, 3, default),
@@ -28,8 +29,9 @@ fn soa_numbers(fields: &Fields, default: u32) -> SoaNumbers
 
 // The SOA record of the names of fields 1 and 2.
 pub fn put_authority_line(out: &mut [u8], fields: &Fields, serial: u32) -> usize
-    requires { Ready Kind.Authority fields.now × (length (bytes_of (records_of serial Kind.Authority fields.now)) ≤ length out.old) }
-    ensures { IsPut (bytes_of (records_of serial Kind.Authority fields.now)) out.old out.new result }
+    requires { Ready Kind.Authority (fields_of fields.now)
+        × (length (bytes_of (records_of serial Kind.Authority (fields_of fields.now))) ≤ length out.old) }
+    ensures { IsPut (bytes_of (records_of serial Kind.Authority (fields_of fields.now))) out.old out.new result }
 {
     let shared = shared_of(fields, Kind::Authority);
     let numbers = soa_numbers(fields, serial);

@@ -27,6 +27,20 @@ module _ (f : ℕ → ℕ) where
       let q : i ≡ length s = omega arith in
       record { count = sym l; room = omega arith; holds = rw l (e ∙ rw (take_all i s h, q)) }
 
+-- a loop that stores each byte of s, one after the other
+abbrev pub Copied : List ℕ → List ℕ → List ℕ → ℕ → Type 0
+Copied s d out i = out ≡ take i s ++ drop i d
+
+pub copied_more : (s d out : List ℕ) (i b : ℕ) → Copied s d out i → b ≡ get_or s i 0 → i < length s → length s ≤ length d → Copied s d (set out i b) (i + 1)
+copied_more s d out i b e q h k =
+    let m : take (i + 1) s ≡ take i s ++ get_or s i 0 ∷ [] = rw (add-one, take-suc s i 0 h) in
+    rw (e, q, m) (put_front (take i s) d i (get_or s i 0) (length-take-le i s (omega arith)) (omega arith))
+
+pub copied_all : (s d out : List ℕ) (i : ℕ) → Copied s d out i → length s ≤ i → length s ≤ length d → i ≤ length s → IsPut s d out (length s)
+copied_all s d out i e h m k =
+    let q : i ≡ length s = omega arith in
+    record { count = refl; room = omega arith; holds = e ∙ rw (take_all i s h, q) }
+
 -- nothing, and a store behind what was put
 pub nothing : (d : List ℕ) → IsPut [] d d 0
 nothing d = record { count = refl; room = omega arith; holds = refl }

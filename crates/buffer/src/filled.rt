@@ -5,21 +5,27 @@ ghost use Rattle.buffer.specs.Filling.{EachFilling};
 
 use std::marker::Model;
 
-// In a contract it is the list of the bytes that are filled.
-#[derive(Drop)]
+// In a contract it is the list of the bytes that are filled. Those behind them are zeros, so that it can be copied.
+#[derive(Clone, Copy)]
 pub struct Filled<const N: usize> {
     bytes: [u8; N],
     len: usize,
 }
 
 impl<const N: usize> Model for Filled<N> {
-    ghost use Rattle.std.specs.Prelude.{ℕ, List, ◌≤◌, take};
+    ghost use Rattle.std.specs.Prelude.{ℕ, List, length, take};
+    ghost use Rattle.buffer.specs.Filling.{IsFilled, padded};
+    ghost use Rattle.buffer.specs.Padding.{front_padded, front_size};
 
     ghost Value = { List ℕ };
 
     ghost view = { λ f. take f.len f.bytes };
 
-    ghost invariant = { λ f. f.len ≤ N };
+    ghost invariant = { λ f. IsFilled N f.len f.bytes };
+
+    ghost inverse = { λ x. record { bytes = padded N x; len = length x } };
+
+    ghost inverse_ok = { λ f h i. record { bytes = front_padded N f.len f.bytes h i; len = front_size N f.len f.bytes h i } };
 }
 
 impl<const N: usize> Filled<N> {
@@ -28,6 +34,9 @@ impl<const N: usize> Filled<N> {
         requires { len ≤ N }
         ensures { result ≡ take len bytes.entry }
     {
+        let mut bytes = bytes;
+        let room = &mut bytes[..];
+        room[len..].fill(0);
         Filled { bytes, len }
     }
 

@@ -5,14 +5,16 @@ ghost use Rattle.buffer.specs.Put.{IsPut};
 
 use letters::letters::{letter_table, lowered_by};
 
+// Byte by byte: the library's copy of a slice would have libvahmizar.a need memmove from outside.
 pub fn put_bytes(out: &mut [u8], source: &[u8]) -> usize
     requires { length source.now ≤ length out.old }
     ensures put { IsPut source.now out.old out.new result }
     ensures value { result ≡ length source.now }
 {
-    let n = source.len();
-    out[..n].copy_from_slice(source);
-    n
+    for (i, &b) in source.iter().enumerate() {
+        out[i] = b;
+    }
+    source.len()
 }
 
 pub fn put_lowered(out: &mut [u8], source: &[u8]) -> usize

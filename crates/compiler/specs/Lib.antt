@@ -1,3 +1,4 @@
 pub mod Compiled
+pub mod FirstLine
 pub mod Judged
 pub mod Sized

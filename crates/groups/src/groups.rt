@@ -45,11 +45,13 @@ fn group(text: &[u8]) -> Option<u16>
     Some(number as u16)
 }
 
+const GROUPS: usize = 8;
+
 // Eight groups joined by single underscores.
 pub fn groups(text: &[u8]) -> Option<[u16; 8]>
     ensures { option_map groups_bytes result ≡ groups_of text.now }
 {
     let mut groups = [0u16; 8];
     let count = read_pieces(text, b'_', group, &mut groups)?;
-    if count == 8 { Some(groups) } else { None }
+    if count == GROUPS { Some(groups) } else { None }
 }

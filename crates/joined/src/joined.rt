@@ -5,6 +5,7 @@ ghost use Rattle.rules.specs.Names.{wire_of};
 ghost use Rattle.rules.specs.Records.{joined_names};
 ghost use Rattle.rules.specs.Answers.{joined_fault};
 ghost use Rattle.joined.specs.Joined.{middle_size, contact_size, host_size, if_short};
+ghost use Rattle.splits.specs.Texts.{fields_of};
 
 use judged_names::judged::judge_name;
 use pieces::pieces::has_byte;
@@ -66,8 +67,8 @@ fn if_short(size: usize) -> LineFault
 
 // The host's name, and then the contact's.
 pub fn joined_fault(fields: &Fields, kind: Kind) -> LineFault
-    requires { length (field_at fields.now 2) ≤ 1024 }
-    ensures { result ≡ joined_fault (joined_names kind fields.now) }
+    requires { length (field_at (fields_of fields.now) 2) ≤ 1024 }
+    ensures { result ≡ joined_fault (joined_names kind (fields_of fields.now)) }
 {
     let middle = middle_size(kind);
     if middle == 0 {

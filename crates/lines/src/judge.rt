@@ -2,6 +2,7 @@
 ghost use Rattle.std.specs.Prelude.{◌≡◌, ◌≤◌, length};
 ghost use Rattle.rules.specs.Lists.{split_on};
 ghost use Rattle.rules.specs.Answers.{whole_line, fields_fault, kind_fault, line_fault};
+ghost use Rattle.splits.specs.Texts.{fields_of};
 
 use fields::faults::field_fault;
 use joined::joined::joined_fault;
@@ -23,7 +24,7 @@ fn whole_line(fault: Fault) -> LineFault
 // The fields from left to right, each read as its meaning.
 fn fields_fault(fields: &Fields, meanings: &[Meaning]) -> LineFault
     requires { length meanings.now ≤ 11 }
-    ensures { result ≡ fields_fault 0 meanings.now fields.now }
+    ensures { result ≡ fields_fault 0 meanings.now (fields_of fields.now) }
 {
     for (i, &meaning) in meanings.iter().enumerate() {
         let fault = field_fault(meaning, fields.field(i));

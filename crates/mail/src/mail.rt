@@ -8,8 +8,9 @@ ghost use Rattle.buffer.specs.Put.{IsPut};
 ghost use Rattle.heads.specs.Head.{head_size};
 ghost use Rattle.values.specs.Ready.{Ready};
 ghost use Rattle.hosts.specs.HostLines.{host_records};
+ghost use Rattle.splits.specs.Texts.{fields_of};
 
-use a_aaaa::a_aaaa::put_address;
+use a_aaaa::a_aaaa::put_held_address;
 use buffer::put::put_bytes;
 use heads::heads::put_head;
 use hosts::hosts::HostLine;
@@ -39,12 +40,13 @@ fn put_exchanger(out: &mut [u8], line: &HostLine, dist: u16) -> usize
 {
     let host = line.host.as_slice();
     let used = put_mx(out, line.owner.as_slice(), line.shared, dist, host);
-    used + put_address(&mut out[used..], host, line.address, line.shared)
+    used + put_held_address(&mut out[used..], host, line.address, line.shared)
 }
 
 pub fn put_mail_line(out: &mut [u8], fields: &Fields) -> usize
-    requires { Ready Kind.Mail fields.now × (length (bytes_of (records_of 0 Kind.Mail fields.now)) ≤ length out.old) }
-    ensures { IsPut (bytes_of (records_of 0 Kind.Mail fields.now)) out.old out.new result }
+    requires { Ready Kind.Mail (fields_of fields.now)
+        × (length (bytes_of (records_of 0 Kind.Mail (fields_of fields.now))) ≤ length out.old) }
+    ensures { IsPut (bytes_of (records_of 0 Kind.Mail (fields_of fields.now))) out.old out.new result }
 {
     let line = HostLine::read(fields, Kind::Mail, &MX);
     let dist = short_at(fields, 3);

@@ -3,7 +3,7 @@ use mathlib.Core.Path.{◌≡◌, refl, ap, ◌∙◌, sym}
 use mathlib.Core.Bool.{Bool, true, false, ◌&&◌, and-true, true≢false}
 use mathlib.Core.Logic.{◌⊎◌, inl, inr, ⊎_elim}
 use mathlib.Core.List.{List, [], ◌∷◌, ◌++◌, append-nil, append_assoc, map}
-use Prim.Native.Nat.{ℕ, suc, ◌≤◌}
+use Prim.Native.Nat.{ℕ, suc, ◌+◌, ◌≤◌}
 use native.Mathlib.Omega.{arith}
 use borrow.Author.Tests.{eq-eqb, ne_eqb, eqb-true, eqb-false, leb-false}
 use lib.Dec.{leb, eqb}
@@ -145,3 +145,36 @@ few_from (b ∷ bs) closed begun place n h =
 pub parts_few : (s : List ℕ) → is_named (name_of s) ≡ true → Each (λ p. length p ≤ 63) (split_on 46 s)
 parts_few s = by_dot (λ s. is_named (name_of s) ≡ true → Each (λ p. length p ≤ 63) (split_on 46 s)) (λ n. unfold split_on pick in (omega arith, (omega arith, tt))) s
     (λ e n. rw (front_none s) at (few_from s [] [] 0 (ap is_named (sym (name_read s e)) ∙ n) (omega arith)))
+
+-- ---- its length
+
+label_long : (begun : List ℕ) → length begun ≤ length (label begun)
+unfolding label
+label_long [] = omega arith
+label_long (b ∷ bs) = omega arith
+
+long_from : (bs closed begun : List ℕ) (place : ℕ) → is_named (name_from closed begun place bs) ≡ true
+    → length closed + length begun + length bs + 1 ≤ length (wire_in (name_from closed begun place bs))
+unfolding wire_in
+long_from [] closed begun place n =
+    let p : name_from closed begun place [] ≡ if_not_too_long (closed ++ label begun ++ (0 ∷ [])) = unfold name_from in refl in
+    rw (p, end_step (closed ++ label begun ++ (0 ∷ [])) (ap is_named (sym p) ∙ n))
+    (simp length-append (omega (arith, label_long begun)))
+long_from (b ∷ bs) closed begun place n =
+    ⊎_elim
+    (λ q.
+    let w = dot_step closed begun place b bs n q in
+    let l : length (closed ++ label begun) ≡ length closed + suc (length begun) = length-append closed (label begun) ∙ rw (label_is begun w.0) in
+    rw w.1 (omega (arith, long_from bs (closed ++ label begun) [] (suc place) (ap is_named (sym w.1) ∙ n))))
+    (λ q.
+    let w = plain_step closed begun place b bs n q in
+    let l : length (begun ++ (b ∷ [])) ≡ length begun + 1 = length-append begun (b ∷ []) in
+    rw w.1 (omega (arith, long_from bs closed (begun ++ (b ∷ [])) (suc place) (ap is_named (sym w.1) ∙ n))))
+    (same_or_not (eqb b 46) b 46 refl)
+
+-- a name other than the root is longer on the wire than its text
+pub wire_longer : (s : List ℕ) → same_bytes s (46 ∷ []) ≡ false → is_named (name_of s) ≡ true → length s + 1 ≤ length (wire_of s)
+unfolding wire_of
+wire_longer s e n =
+    let l = long_from s [] [] 0 (ap is_named (sym (name_read s e)) ∙ n) in
+    rw (name_read s e) (omega arith)

@@ -1,11 +1,16 @@
 -- The laws of a number: what its digits say, within its length and its limit.
-use Rattle.std.proofs.Common.{◌≡◌, refl, ◌∙◌, sym, ℕ, ◌<◌, ◌≤◌, List, length, Option, Some, None, Bool, true, false, ◌&&◌, arith, leb}
+use Rattle.std.proofs.Common.{◌≡◌, refl, ◌∙◌, sym, ℕ, ◌+◌, ◌-◌, ◌*◌, ◌^◌, ◌<◌, ◌≤◌, List, length, Option, Some, None, Bool, true, false, ◌&&◌, arith, leb, add-one}
 use Rattle.std.proofs.lemmas.Option.{none-some}
 use borrow.Author.Tests.{le-leb, lt-leb, leb-true}
+use Rattle.std.proofs.Math.Nat.{pow-suc}
 use Rattle.rules.specs.Lists.{pick, all}
 use Rattle.rules.specs.Fields.{digit, decimal_from, number_of}
 use Rattle.digits.specs.Digits.{decimal_of, value_from}
 use Rattle.digits.proofs.Digit.{decimal_says}
+
+-- one digit more is ten times as much
+pub ten_more : (i v d b : ℕ) → v < 10 ^ i → d ≡ b - 48 → b ≤ 57 → v * 10 + d < 10 ^ (i + 1)
+ten_more i v d b h e g = rw (add-one, pow-suc) (omega arith)
 
 module _ (limit : ℕ) (s : List ℕ) where
   pub empty : length s ≡ 0 → None ≡ number_of limit s

@@ -1,5 +1,6 @@
 -- The laws of one number of an IPv4 address: a number of at most three digits and 255, without a zero in front.
 use Rattle.std.proofs.Common.{◌≡◌, refl, ap, ◌∙◌, sym, ℕ, ◌<◌, ◌≤◌, List, [], ◌∷◌, ◌++◌, length, get_or, map, Option, Some, None, option_map, arith, eqb, leb, Bool, true, false, ◌&&◌, ◌||◌, not, rules, Fits, w8, take}
+use Rattle.std.proofs.lemmas.Option.{none-some}
 use mathlib.Core.Bool.{and-true, and-false}
 use borrow.Author.Tests.{le-leb, lt-leb, ne_eqb, not-true, not-false}
 use Rattle.rules.specs.Lists.{pick, join_all, split_on}
@@ -8,6 +9,11 @@ use Rattle.numbers.proofs.Number.{value_within}
 use Rattle.pieces.specs.Pieces.{read_all, read_in}
 use Rattle.pieces.proofs.Read.{address_read}
 use Rattle.octets.specs.Octets.{leading_zero, octet_of, octets_of}
+
+pub bad_by : {A : Type 0} (u : Bool) (n : A) → None ≡ pick u (Some n) None → u ≡ false
+unfolding pick
+bad_by true n e = absurd (none-some n e)
+bad_by false n e = refl
 
 pub short : (t : List ℕ) → length t < 2 → false ≡ leading_zero t
 unfolding leading_zero first_is_zero

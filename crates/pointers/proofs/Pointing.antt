@@ -3,8 +3,7 @@ use mathlib.Core.Path.{◌≡◌, refl, sym}
 use mathlib.Core.List.{List}
 use Prim.Native.Nat.{ℕ, ◌+◌, ◌≤◌}
 use native.Mathlib.Omega.{arith}
-use borrow.Author.Rules.{rules}
-use lib.ListN.{length, take}
+use lib.ListN.{length}
 use Rattle.rules.specs.Kinds.{common, meanings, field_count, field_at}
 use Rattle.rules.specs.Names.{wire_of}
 use Rattle.rules.specs.Fields.{fault_of}
@@ -16,7 +15,7 @@ use Rattle.buffer.specs.Put.{IsPut}
 use Rattle.heads.specs.Head.{head_size}
 use Rattle.values.specs.Ready.{Ready}
 use Rattle.pointers.specs.Targets.{Points}
-use Rattle.values.proofs.Readiness.{owner_named, needed_named, done}
+use Rattle.values.proofs.Readiness.{needed_named, done}
 use Rattle.records.proofs.Sequence.{record_room, one}
 
 module _ (fields : List (List ℕ)) (kind : Kind) (shared : Shared) (owner target : List ℕ) (type : ℕ) (p : Points kind fields type)

@@ -6,6 +6,7 @@ ghost use Rattle.rules.specs.declared.kinds.Kind.{Kind};
 ghost use Rattle.buffer.specs.Put.{IsPut};
 ghost use Rattle.values.specs.Ready.{Ready};
 ghost use Rattle.pointers.specs.Targets.{Points};
+ghost use Rattle.splits.specs.Texts.{fields_of};
 
 use hosts::hosts::name_at;
 use records::resources::put_resource;
@@ -15,8 +16,9 @@ use values::values::shared_of;
 
 // The record whose data are the name of field 1.
 fn put_target(out: &mut [u8], fields: &Fields, kind: Kind, rtype: u16) -> usize
-    requires { Ready kind fields.now × Points kind fields.now rtype × (length (bytes_of (records_of 0 kind fields.now)) ≤ length out.old) }
-    ensures { IsPut (bytes_of (records_of 0 kind fields.now)) out.old out.new result }
+    requires { Ready kind (fields_of fields.now) × Points kind (fields_of fields.now) rtype
+        × (length (bytes_of (records_of 0 kind (fields_of fields.now))) ≤ length out.old) }
+    ensures { IsPut (bytes_of (records_of 0 kind (fields_of fields.now))) out.old out.new result }
 {
     let shared = shared_of(fields, kind);
     let owner = name_at(fields, 0);
@@ -26,15 +28,17 @@ fn put_target(out: &mut [u8], fields: &Fields, kind: Kind, rtype: u16) -> usize
 
 // Two functions with a contract each: which type belongs to which kind is what they promise.
 pub fn put_pointer_line(out: &mut [u8], fields: &Fields) -> usize
-    requires { Ready Kind.Pointer fields.now × (length (bytes_of (records_of 0 Kind.Pointer fields.now)) ≤ length out.old) }
-    ensures { IsPut (bytes_of (records_of 0 Kind.Pointer fields.now)) out.old out.new result }
+    requires { Ready Kind.Pointer (fields_of fields.now)
+        × (length (bytes_of (records_of 0 Kind.Pointer (fields_of fields.now))) ≤ length out.old) }
+    ensures { IsPut (bytes_of (records_of 0 Kind.Pointer (fields_of fields.now))) out.old out.new result }
 {
     put_target(out, fields, Kind::Pointer, 12)
 }
 
 pub fn put_canonical_line(out: &mut [u8], fields: &Fields) -> usize
-    requires { Ready Kind.Canonical fields.now × (length (bytes_of (records_of 0 Kind.Canonical fields.now)) ≤ length out.old) }
-    ensures { IsPut (bytes_of (records_of 0 Kind.Canonical fields.now)) out.old out.new result }
+    requires { Ready Kind.Canonical (fields_of fields.now)
+        × (length (bytes_of (records_of 0 Kind.Canonical (fields_of fields.now))) ≤ length out.old) }
+    ensures { IsPut (bytes_of (records_of 0 Kind.Canonical (fields_of fields.now))) out.old out.new result }
 {
     put_target(out, fields, Kind::Canonical, 5)
 }

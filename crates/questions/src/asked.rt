@@ -7,7 +7,7 @@ use judged_names::judged::judge_name;
 use names::names::{Name, read_name};
 use numbers::numbers::number;
 
-#[derive(Drop)]
+#[derive(Clone, Copy)]
 pub struct Asked {
     pub qtype: u16,
     pub name: Name,

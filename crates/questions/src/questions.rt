@@ -11,7 +11,7 @@ use crate::texts::split_line;
 use reader::ask;
 use rules::replies::Response;
 
-#[derive(Drop)]
+#[derive(Clone, Copy)]
 pub struct Question {
     pub asker: Asker,
     pub asked: Asked,

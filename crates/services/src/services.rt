@@ -6,8 +6,9 @@ ghost use Rattle.rules.specs.declared.kinds.Kind.{Kind};
 ghost use Rattle.buffer.specs.Put.{IsPut};
 ghost use Rattle.values.specs.Ready.{Ready};
 ghost use Rattle.services.specs.ServiceLines.{service_records};
+ghost use Rattle.splits.specs.Texts.{fields_of};
 
-use a_aaaa::a_aaaa::put_address;
+use a_aaaa::a_aaaa::put_held_address;
 use hosts::hosts::HostLine;
 use rules::kinds::Kind;
 use rules::quantities::{Port, Priority, Weight};
@@ -32,12 +33,13 @@ fn put_service(
     let owner = line.owner.as_slice();
     let host = line.host.as_slice();
     let used = put_srv(out, owner, line.shared, priority, weight, port, host);
-    used + put_address(&mut out[used..], host, line.address, line.shared)
+    used + put_held_address(&mut out[used..], host, line.address, line.shared)
 }
 
 pub fn put_service_line(out: &mut [u8], fields: &Fields) -> usize
-    requires { Ready Kind.Service fields.now × (length (bytes_of (records_of 0 Kind.Service fields.now)) ≤ length out.old) }
-    ensures { IsPut (bytes_of (records_of 0 Kind.Service fields.now)) out.old out.new result }
+    requires { Ready Kind.Service (fields_of fields.now)
+        × (length (bytes_of (records_of 0 Kind.Service (fields_of fields.now))) ≤ length out.old) }
+    ensures { IsPut (bytes_of (records_of 0 Kind.Service (fields_of fields.now))) out.old out.new result }
 {
     let line = HostLine::read(fields, Kind::Service, &SRV);
     let port = short_at(fields, 3);

@@ -8,6 +8,7 @@ ghost use Rattle.rules.specs.Bytes.{bytes_of};
 ghost use Rattle.rules.specs.declared.kinds.Kind.{Kind};
 ghost use Rattle.buffer.specs.Put.{IsPut};
 ghost use Rattle.values.specs.Ready.{Ready};
+ghost use Rattle.splits.specs.Texts.{fields_of};
 
 use buffer::filled::Filled;
 use escapes::texts::put_text;
@@ -23,8 +24,9 @@ pub type PlainText = Filled<1024>;
 
 // What the text of field i stands for.
 fn text_at(fields: &Fields, i: usize) -> PlainText
-    requires { (i < 11) × (length (field_at fields.now i) ≤ 1024) × (is_some (text_of (field_at fields.now i)) ≡ true) }
-    ensures { result ≡ value_or [] (text_of (field_at fields.now i)) }
+    requires { (i < 11) × (length (field_at (fields_of fields.now) i) ≤ 1024)
+        × (is_some (text_of (field_at (fields_of fields.now) i)) ≡ true) }
+    ensures { result ≡ value_or [] (text_of (field_at (fields_of fields.now) i)) }
 {
     let mut bytes = [0u8; 1024];
     let len = put_text(&mut bytes, fields.field(i));
@@ -33,8 +35,9 @@ fn text_at(fields: &Fields, i: usize) -> PlainText
 
 // Like the line of a name in shape alone: a text goes out in chunks.
 pub fn put_text_line(out: &mut [u8], fields: &Fields) -> usize
-    requires { Ready Kind.Text fields.now × (length (bytes_of (records_of 0 Kind.Text fields.now)) ≤ length out.old) }
-    ensures { IsPut (bytes_of (records_of 0 Kind.Text fields.now)) out.old out.new result }
+    requires { Ready Kind.Text (fields_of fields.now)
+        × (length (bytes_of (records_of 0 Kind.Text (fields_of fields.now))) ≤ length out.old) }
+    ensures { IsPut (bytes_of (records_of 0 Kind.Text (fields_of fields.now))) out.old out.new result }
 {
     let shared = shared_of(fields, Kind::Text);
     let owner = name_at(fields, 0);
@@ -43,8 +46,9 @@ pub fn put_text_line(out: &mut [u8], fields: &Fields) -> usize
 }
 
 pub fn put_generic_line(out: &mut [u8], fields: &Fields) -> usize
-    requires { Ready Kind.Generic fields.now × (length (bytes_of (records_of 0 Kind.Generic fields.now)) ≤ length out.old) }
-    ensures { IsPut (bytes_of (records_of 0 Kind.Generic fields.now)) out.old out.new result }
+    requires { Ready Kind.Generic (fields_of fields.now)
+        × (length (bytes_of (records_of 0 Kind.Generic (fields_of fields.now))) ≤ length out.old) }
+    ensures { IsPut (bytes_of (records_of 0 Kind.Generic (fields_of fields.now))) out.old out.new result }
 {
     let shared = shared_of(fields, Kind::Generic);
     let owner = name_at(fields, 0);

@@ -5,10 +5,10 @@ use mathlib.Core.List.{List, [], ◌∷◌, ◌++◌, append-nil, append_assoc}
 use Prim.Native.Nat.{ℕ, zero, suc, ◌+◌, ◌/◌, ◌<◌, ◌≤◌}
 use native.Mathlib.Omega.{arith}
 use borrow.Author.Rules.{rules}
-use borrow.Author.Tests.{le-leb, lt-leb, leb-true, leb-false}
-use lib.Dec.{leb}
-use lib.ListN.{length, take, drop, length-append, length-drop}
-use lib.Seq.{length-take-le, take_at, drop_at}
+use borrow.Author.Tests.{le-leb, lt-leb, ltb-true, ltb-false, leb-true, leb-false}
+use lib.Dec.{leb, ltb}
+use lib.ListN.{length, take, drop, length-append, length-drop, drop_of_length-le}
+use lib.Seq.{take_all, length-take-le, take_at, drop_at}
 use Rattle.std.proofs.lemmas.Bool.{cases_lt}
 use Rattle.std.proofs.lemmas.List.{nil_from_length}
 use mathlib.Core.Logic.{inl, inr}
@@ -16,6 +16,7 @@ use Rattle.std.proofs.Common.{min}
 use Rattle.rules.specs.Lists.{pick}
 use Rattle.rules.specs.Records.{chunks_from, chunks}
 use Rattle.buffer.specs.Put.{IsPut}
+use Rattle.txt.specs.Chunks.{chunk_size}
 use Rattle.wire.proofs.Fuel.{enough}
 use Rattle.wire.proofs.Parts.{lent_at, back_at, tail_lent}
 use Rattle.buffer.proofs.Puts.{Run, run_none, run_front, run_more, run_whole, put_length, within}
@@ -54,7 +55,7 @@ chunks_more (b ∷ t) h =
     rw (lt-leb (length (b ∷ t)) 127 h, enough chunks_from onto (drop 127) [] none_left front shorter (length t) (length rest) rest (shorter b t) (omega arith))
 
 -- both in one: a first chunk, as the library cuts it, and the others
-first_chunk : (t x rest : List ℕ) → t ≡ x ++ rest → length x ≡ min 127 (length t) → 0 < length t → chunks t ≡ (length x ∷ x) ++ chunks rest
+pub first_chunk : (t x rest : List ℕ) → t ≡ x ++ rest → length x ≡ min 127 (length t) → 0 < length t → chunks t ≡ (length x ∷ x) ++ chunks rest
 first_chunk t x rest parts long some = elim (cases_lt 127 (length t)) [
   | inl more ↦
       let k : length x ≡ 127 = omega arith in
@@ -68,6 +69,20 @@ first_chunk t x rest parts long some = elim (cases_lt 127 (length t)) [
       let q : t ≡ x = parts ∙ rw z (append-nil x) in
       rw (z, chunks_none, append-nil x, ← q) (chunks_last t some few)
 ]
+
+-- the same by the size of the first chunk
+pub chunks_step : (t : List ℕ) (k : ℕ) → 0 < length t → k ≡ chunk_size (length t) → chunks t ≡ (k ∷ take k t) ++ chunks (drop k t)
+unfolding chunk_size pick
+chunks_step t k h e = go (ltb 127 (length t)) refl e
+  where
+    go : (b : Bool) → ltb 127 (length t) ≡ b → k ≡ pick b 127 (length t) → chunks t ≡ (k ∷ take k t) ++ chunks (drop k t)
+    go true q w = rw w (chunks_more t (ltb-true _ _ q))
+    go false q w =
+        let l : length t ≤ 127 = ltb-false _ _ q in
+        let n : k ≡ length t = w in
+        let a : take k t ≡ t = take_all k t (omega arith) in
+        let z : drop k t ≡ [] = drop_of_length-le t {i = k} (omega arith) in
+        rw (a, z, chunks_none, append-nil (k ∷ t), n) (chunks_last t h l)
 
 length_from : (f : ℕ) (t : List ℕ) → length t ≤ f → length (chunks_from f t) ≡ length t + (length t + 126) / 127
 unfolding chunks_from pick

@@ -3,7 +3,7 @@ use mathlib.Core.Path.{◌≡◌, refl, ◌∙◌, sym, subst}
 use mathlib.Core.Bool.{Bool, true, false}
 use mathlib.Core.List.{List, ◌∷◌}
 use Prim.Native.Nat.{ℕ, ◌-◌, ◌≤◌}
-use Rattle.std.specs.Prelude.{Option, Some, IsSome}
+use Rattle.std.specs.Prelude.{Option, Some, None, IsSome, option_map}
 use native.Mathlib.Omega.{arith}
 use lib.Dec.{nltb→le}
 use lib.ListN.{length, get_or, take, drop, length-take, length-drop}
@@ -19,6 +19,8 @@ use Rattle.buffer.specs.Put.{IsPut}
 use Rattle.kinds.specs.Strips.{IsStripped}
 use Rattle.kinds.proofs.Stripping.{parted_line}
 use Rattle.splits.specs.Few.{if_few}
+use Rattle.splits.specs.Texts.{fields_of}
+use Rattle.splits.specs.declared.splits.Fields.{Fields}
 use Rattle.splits.proofs.Splitting.{few_there, field_short}
 use Rattle.values.specs.Ready.{Ready}
 use Rattle.writer.specs.GoodLine.{GoodRest}
@@ -99,17 +101,24 @@ counted kind fields =
     Few : Type 0
     Few = length fields ≤ field_count kind
 
+some_mapped : {A B : Type 0} (f : A → B) (o : Option A) → IsSome (option_map f o) → IsSome o
+some_mapped f None h = h
+some_mapped f (Some x) h = h
+
 -- so they are found, and can be written
-module _ (kind : Kind) (s : List ℕ) (o : Option (List (List ℕ))) (g : GoodRest kind s) (p : o ≡ if_few (field_count kind) (split_on 58 s)) where
-  found : o ≡ Some (split_on 58 s)
+module _ (kind : Kind) (s : List ℕ) (o : Option Fields) (g : GoodRest kind s) (p : option_map fields_of o ≡ if_few (field_count kind) (split_on 58 s)) where
+  found : option_map fields_of o ≡ Some (split_on 58 s)
   found = p ∙ few_there (field_count kind) (split_on 58 s) (counted kind (split_on 58 s) g.good)
 
   pub fields_there : IsSome o
-  fields_there = rw found refl
+  fields_there = some_mapped fields_of o (rw found refl)
 
-  module _ (fields : List (List ℕ)) (q : o ≡ Some fields) where
+  module _ (found_fields : Fields) (q : o ≡ Some found_fields) where
+    abbrev fields : List (List ℕ)
+    fields = fields_of found_fields
+
     fields_are : split_on 58 s ≡ fields
-    fields_are = let e : Some (split_on 58 s) ≡ Some fields = sym found ∙ q in cc
+    fields_are = let e : Some (split_on 58 s) ≡ Some fields = sym found ∙ rw q in cc
 
     pub ready_of : Ready kind fields
     ready_of = rw (← fields_are) (record { short = λ i. field_short s i 1024 g.short; good = g.good })

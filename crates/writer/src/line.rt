@@ -7,6 +7,7 @@ ghost use Rattle.rules.specs.Answers.{is_good, line_records};
 ghost use Rattle.buffer.specs.Put.{IsPut};
 ghost use Rattle.values.specs.Ready.{Ready};
 ghost use Rattle.writer.specs.GoodLine.{GoodRest};
+ghost use Rattle.splits.specs.Texts.{fields_of};
 
 use aliases::aliases::{put_alias_line, put_host_line};
 use authorities::authorities::put_authority_line;
@@ -23,8 +24,9 @@ use zones::zones::{put_delegation_line, put_zone_line};
 
 // A match, since each kind's function asks and promises something of its own.
 fn put_kind(out: &mut [u8], fields: &Fields, kind: Kind, serial: u32) -> usize
-    requires { Ready kind fields.now × (length (bytes_of (records_of serial kind fields.now)) ≤ length out.old) }
-    ensures { IsPut (bytes_of (records_of serial kind fields.now)) out.old out.new result }
+    requires { Ready kind (fields_of fields.now)
+        × (length (bytes_of (records_of serial kind (fields_of fields.now))) ≤ length out.old) }
+    ensures { IsPut (bytes_of (records_of serial kind (fields_of fields.now))) out.old out.new result }
 {
     match kind {
         Kind::Location => put_location_line(out, fields),
@@ -43,7 +45,8 @@ fn put_kind(out: &mut [u8], fields: &Fields, kind: Kind, serial: u32) -> usize
     }
 }
 
-// What stands behind the kind byte.
+// What stands behind the kind byte. Out of line, so that a line without records costs no frame for those that have some.
+#[inline(never)]
 fn put_rest(out: &mut [u8], rest: &[u8], kind: Kind, serial: u32) -> usize
     requires { GoodRest kind rest.now × (length (bytes_of (records_of serial kind (split_on 58 rest.now))) ≤ length out.old) }
     ensures { IsPut (bytes_of (records_of serial kind (split_on 58 rest.now))) out.old out.new result }

@@ -7,8 +7,9 @@ ghost use Rattle.buffer.specs.Put.{IsPut};
 ghost use Rattle.values.specs.Ready.{Ready};
 ghost use Rattle.hosts.specs.HostLines.{host_records};
 ghost use Rattle.zones.specs.ZoneLines.{soa_record, zone_records};
+ghost use Rattle.splits.specs.Texts.{fields_of};
 
-use a_aaaa::a_aaaa::put_address;
+use a_aaaa::a_aaaa::put_held_address;
 use contacts::contacts::read_contact;
 use hosts::hosts::HostLine;
 use records::resources::put_resource;
@@ -27,7 +28,7 @@ fn put_server(out: &mut [u8], line: &HostLine) -> usize
 {
     let host = line.host.as_slice();
     let used = put_resource(out, line.owner.as_slice(), 2, line.shared, host);
-    used + put_address(&mut out[used..], host, line.address, line.shared)
+    used + put_held_address(&mut out[used..], host, line.address, line.shared)
 }
 
 // What the SOA of a zone line shares with the line: it is kept for a time of its own, if the line doesn't end.
@@ -65,8 +66,9 @@ fn put_authority(out: &mut [u8], line: &HostLine, serial: u32) -> usize
 }
 
 pub fn put_zone_line(out: &mut [u8], fields: &Fields, serial: u32) -> usize
-    requires { Ready Kind.Zone fields.now × (length (bytes_of (records_of serial Kind.Zone fields.now)) ≤ length out.old) }
-    ensures { IsPut (bytes_of (records_of serial Kind.Zone fields.now)) out.old out.new result }
+    requires { Ready Kind.Zone (fields_of fields.now)
+        × (length (bytes_of (records_of serial Kind.Zone (fields_of fields.now))) ≤ length out.old) }
+    ensures { IsPut (bytes_of (records_of serial Kind.Zone (fields_of fields.now))) out.old out.new result }
 {
     let line = HostLine::read(fields, Kind::Zone, &NS);
     let used = put_authority(out, &line, serial);
@@ -74,8 +76,9 @@ pub fn put_zone_line(out: &mut [u8], fields: &Fields, serial: u32) -> usize
 }
 
 pub fn put_delegation_line(out: &mut [u8], fields: &Fields) -> usize
-    requires { Ready Kind.Delegation fields.now × (length (bytes_of (records_of 0 Kind.Delegation fields.now)) ≤ length out.old) }
-    ensures { IsPut (bytes_of (records_of 0 Kind.Delegation fields.now)) out.old out.new result }
+    requires { Ready Kind.Delegation (fields_of fields.now)
+        × (length (bytes_of (records_of 0 Kind.Delegation (fields_of fields.now))) ≤ length out.old) }
+    ensures { IsPut (bytes_of (records_of 0 Kind.Delegation (fields_of fields.now))) out.old out.new result }
 {
     let line = HostLine::read(fields, Kind::Delegation, &NS);
     put_server(out, &line)

@@ -1,5 +1,4 @@
 use mathlib.Core.Path.{ap, ◌∙◌}
-use native.Mathlib.Omega.{arith}
 use Rattle.rules.specs.Records.{reverse_name}
 use Rattle.aliases.proofs.AddressLines.{back_room, back_put, address_few}
 use Rattle.aliases.proofs.aliases.put_back.Goals as goal

@@ -8,11 +8,11 @@ pub put_mx-used-requires : goal.put_mx-used-requires
 put_mx-used-requires c =
     mx_size c.args.dist _ _ _ (first_room c.args.line.now _ _ c.as_slice.ensures.value c.as_slice-host.ensures.value 15 (λ x. be 2 c.args.dist ++ x) _ c.requires)
 
-pub put_address-requires : goal.put_address-requires
-put_address-requires c =
+pub put_held_address-requires : goal.put_held_address-requires
+put_held_address-requires c =
     second_room c.args.line.now _ _ c.as_slice.ensures.value c.as_slice-host.ensures.value 15 (λ x. be 2 c.args.dist ++ x) _ _ _ c.requires c.put_mx-used.ensures.put
 
 pub returns : goal.returns
 returns c =
     both_put c.args.line.now _ _ c.as_slice.ensures.value c.as_slice-host.ensures.value 15 (λ x. be 2 c.args.dist ++ x) _ _ _ c.requires c.put_mx-used.ensures.put _ _
-    c.put_address.ensures
+    c.put_held_address.ensures

@@ -1,4 +1,4 @@
-use Rattle.texts.proofs.TextLines.{text_good, text_fits, text_held, text_few}
+use Rattle.texts.proofs.TextLines.{text_good, text_fits, text_held}
 use native.Mathlib.Omega.{arith}
 use Rattle.texts.proofs.texts.text_at.Goals as goal
 

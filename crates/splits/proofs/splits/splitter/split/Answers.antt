@@ -1,6 +1,6 @@
 use Rattle.splits.proofs.Splitting.{split_laws}
-use Rattle.splits.proofs.splits.split.Goals as goal
-use Rattle.splits.proofs.splits.split.Goals.{then-b-eq58+else-most-count, else-b-eq58}
+use Rattle.splits.proofs.splits.splitter.split.Goals as goal
+use Rattle.splits.proofs.splits.splitter.split.Goals.{then-b-eq58+else-most-count, else-b-eq58}
 
 pub loop-i-init : goal.loop-i-init
 loop-i-init c = search split_laws

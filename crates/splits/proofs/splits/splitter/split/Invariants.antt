@@ -1,6 +1,6 @@
 use Rattle.std.proofs.Common.{◌≡◌, ◌≤◌, length}
 use Rattle.splits.proofs.Splitting.{Going}
-use Rattle.splits.proofs.splits.split.Given as goal
+use Rattle.splits.proofs.splits.splitter.split.Given as goal
 
 abbrev pub invariant-loop-i : goal.invariant-loop-i
 invariant-loop-i l =
