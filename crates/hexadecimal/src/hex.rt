@@ -24,7 +24,7 @@ fn put_digits(room: &mut [u8; 512], bytes: &[u8])
     }
 }
 
-// The digits of the bytes, put in the room.
+// The digits of the bytes, put in the room. They are ASCII, so the library takes them for text.
 fn digits_in<'a>(room: &'a mut [u8; 512], bytes: &[u8]) -> &'a str
     requires { length bytes.now ≤ 256 }
     ensures { result.now ≡ hex_text bytes.now }
@@ -50,7 +50,7 @@ impl fmt::Display for Hex<'_> {
     }
 }
 
-// Writes the digits of all bytes, with no line end.
+// Writes the digits of all bytes, with no line end. The handle's own `print` would take them one by one.
 pub fn print_hex<P: Print>(out: &P, bytes: &[u8]) -> Result<(), Error> {
     write!(io::writer(out), "{}", Hex(bytes))
 }
