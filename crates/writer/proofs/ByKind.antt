@@ -1,5 +1,5 @@
 -- The laws of a line written by its kind.
-use mathlib.Core.Path.{◌≡◌, refl, ◌∙◌, sym, subst}
+use mathlib.Core.Path.{◌≡◌, refl, ap, ◌∙◌, sym, subst}
 use mathlib.Core.Bool.{Bool, true, false}
 use mathlib.Core.List.{List, ◌∷◌}
 use Prim.Native.Nat.{ℕ, ◌-◌, ◌≤◌}
@@ -101,24 +101,17 @@ counted kind fields =
     Few : Type 0
     Few = length fields ≤ field_count kind
 
-some_mapped : {A B : Type 0} (f : A → B) (o : Option A) → IsSome (option_map f o) → IsSome o
-some_mapped f None h = h
-some_mapped f (Some x) h = h
-
 -- so they are found, and can be written
-module _ (kind : Kind) (s : List ℕ) (o : Option Fields) (g : GoodRest kind s) (p : option_map fields_of o ≡ if_few (field_count kind) (split_on 58 s)) where
-  found : option_map fields_of o ≡ Some (split_on 58 s)
+module _ (kind : Kind) (s : List ℕ) (o : Option (List (List ℕ))) (g : GoodRest kind s) (p : o ≡ if_few (field_count kind) (split_on 58 s)) where
+  found : o ≡ Some (split_on 58 s)
   found = p ∙ few_there (field_count kind) (split_on 58 s) (counted kind (split_on 58 s) g.good)
 
   pub fields_there : IsSome o
-  fields_there = some_mapped fields_of o (rw found refl)
+  fields_there = rw found refl
 
-  module _ (found_fields : Fields) (q : o ≡ Some found_fields) where
-    abbrev fields : List (List ℕ)
-    fields = fields_of found_fields
-
+  module _ (fields : List (List ℕ)) (q : o ≡ Some fields) where
     fields_are : split_on 58 s ≡ fields
-    fields_are = let e : Some (split_on 58 s) ≡ Some fields = sym found ∙ rw q in cc
+    fields_are = let e : Some (split_on 58 s) ≡ Some fields = sym found ∙ q in cc
 
     pub ready_of : Ready kind fields
     ready_of = rw (← fields_are) (record { short = λ i. field_short s i 1024 g.short; good = g.good })
@@ -129,6 +122,29 @@ module _ (kind : Kind) (s : List ℕ) (o : Option Fields) (g : GoodRest kind s) 
 
       pub fields_put : (d f : List ℕ) (r : ℕ) → IsPut (bytes_of (records_of serial kind fields)) d f r → IsPut (bytes_of (records_of serial kind (split_on 58 s))) d f r
       fields_put d f r w = rw fields_are w
+
+some_mapped : {A B : Type 0} (f : A → B) (o : Option A) → IsSome (option_map f o) → IsSome o
+some_mapped f None h = h
+some_mapped f (Some x) h = h
+
+-- the same of what the line splitter answers, whose texts these are
+module _ (kind : Kind) (s : List ℕ) (o : Option Fields) (g : GoodRest kind s) (p : option_map fields_of o ≡ if_few (field_count kind) (split_on 58 s)) where
+  pub split_there : IsSome o
+  split_there = some_mapped fields_of o (fields_there kind s (option_map fields_of o) g p)
+
+  module _ (split : Fields) (q : o ≡ Some split) where
+    texts : option_map fields_of o ≡ Some (fields_of split)
+    texts = ap (option_map fields_of) q
+
+    pub split_ready : Ready kind (fields_of split)
+    split_ready = ready_of kind s (option_map fields_of o) g p (fields_of split) texts
+
+    module _ (serial : ℕ) where
+      pub split_room : (n : ℕ) → length (bytes_of (records_of serial kind (split_on 58 s))) ≤ n → length (bytes_of (records_of serial kind (fields_of split))) ≤ n
+      split_room = fields_room kind s (option_map fields_of o) g p (fields_of split) texts serial
+
+      pub split_put : (d f : List ℕ) (r : ℕ) → IsPut (bytes_of (records_of serial kind (fields_of split))) d f r → IsPut (bytes_of (records_of serial kind (split_on 58 s))) d f r
+      split_put = fields_put kind s (option_map fields_of o) g p (fields_of split) texts serial
 
 -- ---- a line
 
